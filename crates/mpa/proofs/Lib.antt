@@ -1,0 +1,5 @@
+pub mod Frames
+pub mod Length
+pub mod ReadBack
+pub mod Startups
+pub mod Taken

@@ -1,0 +1,57 @@
+-- `write_whole` meets its contract: the CRC is of what `write_covered` wrote, and stands where that ends.
+use Prim.Native.Nat.{ℕ}
+use mathlib.Core.List.{List}
+use mathlib.Core.Path.{sym, ap, _∙_}
+use native.Mathlib.Omega.{arith}
+use lib.Seq.{length-take-le}
+use lib.ListN.{take}
+use borrow.Author.Needs.{needs}
+use Rattle.wire.specs.Wire.{put, le32}
+use Rattle.crc32c.specs.Crc.{crcOf}
+use Rattle.mpa.proofs.Frames.{fpdu-put}
+use Rattle.mpa.proofs.fpdu.write_whole.Statement.{statement}
+use Rattle.mpa.proofs.fpdu.write_whole.Tie as tie
+
+covered-length-requires : tie.Need-covered-length-requires
+covered-length-requires c κs = search needs
+
+write-covered-requires : tie.Need-write-covered-requires
+write-covered-requires c κs = search needs
+
+slice-reshare-prefix-crc32c : tie.Need-slice-reshare-prefix-crc32c
+slice-reshare-prefix-crc32c c = search needs
+
+slice-aggregate-crc32c : tie.Need-slice-aggregate-crc32c
+slice-aggregate-crc32c c = sym (length-take-le (c .before .before .before .before .before .covered-length .result) (c .before .before .before .write-covered .last .1 .0) (omega arith))
+
+crc32c-requires : tie.Need-crc32c-requires
+crc32c-requires c κs = search needs
+
+put-le32-requires : tie.Need-put-le32-requires
+put-le32-requires c κs = search needs
+
+same-length : tie.Need-same-length
+same-length c = search needs
+
+returns : tie.Need-returns
+returns c =
+    let a = c .before .before .before .before .before .before .before .before .before .before .before .before .before .args in
+    let k = c .before .before .before .before .before .before .before .before .before .before .covered-length .result in
+    let w = c .before .before .before .before .before .before .before .before .write-covered .last .1 .0 in
+    c .before .before .put-le32 .ensures
+    ∙ ap (λ (v : ℕ). put w k (le32 v)) (c .before .before .before .before .crc32c .ensures)
+    ∙ ap (λ (z : List ℕ). put z k (le32 (crcOf (take k z)))) (c .before .before .before .before .before .before .before .before .write-covered .ensures)
+    ∙ fpdu-put (a .out .now) (a .ulpdu .now) k (c .before .before .before .before .before .before .before .before .before .before .covered-length .ensures .0)
+
+pub write-whole-spec : {M : Type 1} → statement M
+write-whole-spec =
+    tie.close
+    (tie.spec
+    covered-length-requires
+    write-covered-requires
+    slice-reshare-prefix-crc32c
+    slice-aggregate-crc32c
+    crc32c-requires
+    put-le32-requires
+    same-length
+    returns)

@@ -1,0 +1,2 @@
+pub mod Fpdu
+pub mod Startup

@@ -1,0 +1,114 @@
+// The words of a line, and what the words of a command can be.
+use script::hex::Decoded;
+use script::hex::decode;
+use script::word::Word;
+use script::word::next_word;
+use script::word::same;
+ghost use mathlib.Core.Path.{_≡_};
+ghost use Prim.Native.Nat.{_≤_, min};
+ghost use lib.ListN.{length};
+ghost use Rattle.io.specs.Counts.{Counts};
+ghost use Rattle.script.specs.Hex.{decodedOf};
+ghost use Rattle.replay.specs.Args.{hexOf};
+
+// One more word than any command has.
+const MAX_WORDS: usize = 11;
+
+// Where the first words of a line stand, each from its start up to, not with, its end, and how many
+// they are. A line with more words than a command has is as good as one with 11.
+pub struct Words {
+    pub starts: [usize; 11],
+    pub ends: [usize; 11],
+    pub count: usize,
+}
+
+// Whether a word was hex, and how many bytes it stood for.
+pub struct Hex {
+    pub ok: bool,
+    pub count: usize,
+}
+
+// One of two words, as a flag.
+pub enum Flag {
+    Value(bool),
+    Bad,
+}
+
+// The first words of a line.
+pub fn split(line: &[u8]) -> Words
+    ensures { λ r. ⌜ r .count ≤ 11 ⌝ }
+{
+    let mut starts = [0usize; 11];
+    let mut ends = [0usize; 11];
+    let mut at = 0;
+    let mut count = 0;
+    while count < MAX_WORDS {
+        match next_word(line, at) {
+            Word::At { start, end } => {
+                starts[count] = start;
+                ends[count] = end;
+                at = end;
+                count += 1;
+            }
+            Word::Nothing => return Words {
+                starts,
+                ends,
+                count,
+            },
+        }
+    }
+    Words {
+        starts,
+        ends,
+        count,
+    }
+}
+
+// Word number i of the line, of no bytes where the line has none there.
+pub fn word(line: &[u8], words: Words, i: usize) -> &[u8] {
+    if i < MAX_WORDS {
+        let start = words.starts[i];
+        let end = words.ends[i];
+        if start <= end {
+            if end <= line.len() {
+                return &line[start..end];
+            }
+        }
+    }
+    &line[..0]
+}
+
+// Which of two words a word is.
+pub fn flag_of(w: &[u8], no: &[u8], yes: &[u8]) -> Flag {
+    if same(w, yes) {
+        return Flag::Value(true);
+    }
+    if same(w, no) {
+        return Flag::Value(false);
+    }
+    Flag::Bad
+}
+
+// The room that a command asks for, of which there is no more than `most`.
+pub fn room(asked: u64, most: usize) -> usize
+    ensures { λ r. ⌜ r ≡ min asked most ⌝ }
+{
+    if asked < most as u64 {
+        return asked as usize;
+    }
+    most
+}
+
+// Puts the bytes that a word of hex stands for at the start of out.
+pub fn hex_into(w: &[u8], out: &mut [u8]) -> Hex
+    ensures within { λ r. ⌜ Counts (r .count) (now (out .exit)) ⌝ }
+    ensures answer { λ r. ⌜ r ≡ hexOf (decodedOf (now (w .entry)) (length (now (out .entry)))) ⌝ }
+{
+    match decode(w, out) {
+        Decoded::Bytes(n) => Hex { ok: true, count: n },
+        Decoded::Bad => Hex {
+            ok: false,
+            count: 0,
+        },
+    }
+}

@@ -1,0 +1,19 @@
+-- Where bytes are written: `s` from place `at` on where all of it fits, and nothing where it does not.
+-- Assumes nothing.
+use Prim.Native.Nat.{ℕ, _+_}
+use mathlib.Core.Bool.{Bool, cond}
+use mathlib.Core.List.{List, _++_}
+use lib.ListN.{length, take, drop}
+use lib.Dec.{leb}
+
+-- whether s fits into out at `at`
+abbrev pub fits : List ℕ → List ℕ → ℕ → Bool
+fits s out at = leb (at + length s) (length out)
+
+-- out, with s from `at` on where it fits
+unfoldable pub putIn : List ℕ → List ℕ → ℕ → List ℕ
+putIn s out at = cond (fits s out at) (take at out ++ s ++ drop (at + length s) out) out
+
+-- the place after s where it fits, and else `at`
+unfoldable pub putEnd : List ℕ → List ℕ → ℕ → ℕ
+putEnd s out at = cond (fits s out at) (at + length s) at

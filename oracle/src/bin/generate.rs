@@ -1,0 +1,39 @@
+//! The program that writes random scripts: `generate frames|nights SEED COUNT`.
+
+use std::env;
+use std::io::{self, BufWriter};
+use std::process::ExitCode;
+
+use oracle::generate::{frames, nights};
+
+/// Writes the script that the arguments ask for to standard output.
+fn main() -> ExitCode {
+    let words: Vec<String> = env::args().skip(1).collect();
+    let Some((mode, seed, count)) = arguments(&words) else {
+        eprintln!("usage: generate frames|nights SEED COUNT");
+        return ExitCode::FAILURE;
+    };
+    let out = BufWriter::new(io::stdout().lock());
+    let result = match mode {
+        "frames" => frames::write_script(seed, count, out),
+        _ => nights::write_script(seed, count, out),
+    };
+    match result {
+        Ok(()) => ExitCode::SUCCESS,
+        Err(error) => {
+            eprintln!("generate: {error}");
+            ExitCode::FAILURE
+        }
+    }
+}
+
+/// Reads the mode, the seed and the count.
+fn arguments(words: &[String]) -> Option<(&str, u64, u64)> {
+    let [mode, seed, count] = words else {
+        return None;
+    };
+    if mode != "frames" && mode != "nights" {
+        return None;
+    }
+    Some((mode, seed.parse().ok()?, count.parse().ok()?))
+}

@@ -1,0 +1,234 @@
+//! The lines of a script, taken apart into commands.
+
+use crate::device::{Part, DOMAINS};
+use crate::hex;
+use crate::startup::Role;
+
+/// The longest line, its newline not counted.
+pub const MAX_LINE: usize = 65_536;
+
+/// What a line is.
+#[derive(Clone, Debug, PartialEq, Eq)]
+pub enum Line {
+    Silent,
+    Bad,
+    Command(Command),
+}
+
+/// One command with its values.
+#[derive(Clone, Debug, PartialEq, Eq)]
+pub enum Command {
+    Open {
+        length: u64,
+        parts: [Part; DOMAINS],
+    },
+    Stream {
+        stream: u64,
+        crc: bool,
+    },
+    Close(u64),
+    Register {
+        window: u64,
+        key: u64,
+        base: u64,
+        length: u64,
+        place: u64,
+        rights: u64,
+    },
+    Drop(u64),
+    Post {
+        stream: u64,
+        start: u64,
+        length: u64,
+    },
+    Receive {
+        stream: u64,
+        bytes: Vec<u8>,
+        lent: Option<u64>,
+    },
+    Take(u64),
+    Live(u64),
+    Free(u64),
+    Bytes {
+        start: u64,
+        length: u64,
+    },
+    Fill {
+        start: u64,
+        bytes: Vec<u8>,
+    },
+    Fpdu {
+        ulpdu: Vec<u8>,
+        room: u64,
+    },
+    Unframe {
+        crc: bool,
+        bytes: Vec<u8>,
+    },
+    Startup {
+        role: Role,
+        crc: bool,
+        reject: bool,
+        private_data: Vec<u8>,
+        room: u64,
+    },
+    Unstartup {
+        role: Role,
+        bytes: Vec<u8>,
+    },
+}
+
+/// Reads one line without its newline.
+pub fn parse(line: &[u8]) -> Line {
+    if line.len() > MAX_LINE {
+        return Line::Bad;
+    }
+    if line.first() == Some(&b'#') {
+        return Line::Silent;
+    }
+    let words: Vec<&[u8]> = line
+        .split(|&byte| byte == b' ')
+        .filter(|word| !word.is_empty())
+        .collect();
+    if words.is_empty() {
+        return Line::Silent;
+    }
+    device_command(&words)
+        .or_else(|| store_command(&words))
+        .or_else(|| frame_command(&words))
+        .map_or(Line::Bad, Line::Command)
+}
+
+/// Reads the commands that are calls of the device.
+fn device_command(words: &[&[u8]]) -> Option<Command> {
+    Some(match *words {
+        [b"open", length, ref ends @ ..] => Command::Open {
+            length: number(length)?,
+            parts: parts(ends)?,
+        },
+        [b"stream", stream, crc] => Command::Stream {
+            stream: number(stream)?,
+            crc: on_off(crc)?,
+        },
+        [b"close", stream] => Command::Close(number(stream)?),
+        [b"register", window, key, base, length, place, rights] => Command::Register {
+            window: number(window)?,
+            key: number(key)?,
+            base: number(base)?,
+            length: number(length)?,
+            place: number(place)?,
+            rights: number(rights)?,
+        },
+        [b"drop", window] => Command::Drop(number(window)?),
+        [b"post", stream, start, length] => Command::Post {
+            stream: number(stream)?,
+            start: number(start)?,
+            length: number(length)?,
+        },
+        [b"receive", stream, bytes] => Command::Receive {
+            stream: number(stream)?,
+            bytes: hex::decode(bytes)?,
+            lent: None,
+        },
+        [b"receive", stream, bytes, lent] => Command::Receive {
+            stream: number(stream)?,
+            bytes: hex::decode(bytes)?,
+            lent: Some(number(lent)?),
+        },
+        [b"take", stream] => Command::Take(number(stream)?),
+        [b"live", domain] => Command::Live(number(domain)?),
+        [b"free", domain] => Command::Free(number(domain)?),
+        _ => return None,
+    })
+}
+
+/// Reads the commands that show or set the store's bytes.
+fn store_command(words: &[&[u8]]) -> Option<Command> {
+    Some(match *words {
+        [b"bytes", start, length] => Command::Bytes {
+            start: number(start)?,
+            length: number(length)?,
+        },
+        [b"fill", start, bytes] => Command::Fill {
+            start: number(start)?,
+            bytes: hex::decode(bytes)?,
+        },
+        _ => return None,
+    })
+}
+
+/// Reads the commands that write and read frames without state.
+fn frame_command(words: &[&[u8]]) -> Option<Command> {
+    Some(match *words {
+        [b"fpdu", ulpdu, room] => Command::Fpdu {
+            ulpdu: hex::decode(ulpdu)?,
+            room: number(room)?,
+        },
+        [b"unframe", crc, bytes] => Command::Unframe {
+            crc: on_off(crc)?,
+            bytes: hex::decode(bytes)?,
+        },
+        [b"startup", role_word, crc, reject, private_data, room] => Command::Startup {
+            role: role(role_word)?,
+            crc: bit(crc)?,
+            reject: bit(reject)?,
+            private_data: hex::decode(private_data)?,
+            room: number(room)?,
+        },
+        [b"unstartup", role_word, bytes] => Command::Unstartup {
+            role: role(role_word)?,
+            bytes: hex::decode(bytes)?,
+        },
+        _ => return None,
+    })
+}
+
+/// Reads a number of 0 to 2^64 - 1.
+fn number(word: &[u8]) -> Option<u64> {
+    word.iter().try_fold(0u64, |value, byte| {
+        if !byte.is_ascii_digit() {
+            return None;
+        }
+        value.checked_mul(10)?.checked_add(u64::from(byte - b'0'))
+    })
+}
+
+/// Reads the starts and ends of the four parts.
+fn parts(words: &[&[u8]]) -> Option<[Part; DOMAINS]> {
+    if words.len() != 2 * DOMAINS {
+        return None;
+    }
+    let mut parts = [Part::default(); DOMAINS];
+    for (part, ends) in parts.iter_mut().zip(words.chunks_exact(2)) {
+        part.start = number(ends[0])?;
+        part.end = number(ends[1])?;
+    }
+    Some(parts)
+}
+
+/// Reads `on` or `off`.
+fn on_off(word: &[u8]) -> Option<bool> {
+    match word {
+        b"on" => Some(true),
+        b"off" => Some(false),
+        _ => None,
+    }
+}
+
+/// Reads `0` or `1`.
+fn bit(word: &[u8]) -> Option<bool> {
+    match word {
+        b"0" => Some(false),
+        b"1" => Some(true),
+        _ => None,
+    }
+}
+
+/// Reads `req` or `rep`.
+fn role(word: &[u8]) -> Option<Role> {
+    match word {
+        b"req" => Some(Role::Request),
+        b"rep" => Some(Role::Reply),
+        _ => None,
+    }
+}

@@ -1,0 +1,259 @@
+//! The state of the box and every call but receive.
+
+use crate::fifo::Fifo;
+use crate::rdmap::ReadRequest;
+use crate::refusal::{Fault, Refusal};
+
+pub const DOMAINS: usize = 4;
+pub const STREAMS: usize = 16;
+pub const STREAMS_PER_DOMAIN: usize = STREAMS / DOMAINS;
+pub const WINDOWS: usize = 64;
+pub const WINDOWS_PER_DOMAIN: usize = WINDOWS / DOMAINS;
+/// The longest store.
+pub const MAX_STORE: u64 = 16_777_216;
+/// The write bit of a window's rights.
+pub const RIGHT_WRITE: u8 = 1;
+/// The read bit of a window's rights.
+pub const RIGHT_READ: u8 = 2;
+
+/// A domain's part of the store, from `start` up to, not with, `end`.
+#[derive(Clone, Copy, Debug, Default, PartialEq, Eq)]
+pub struct Part {
+    pub start: u64,
+    pub end: u64,
+}
+
+impl Part {
+    /// Says whether `length` bytes from `place`, at least one, lie inside the part.
+    fn holds(self, place: u64, length: u64) -> bool {
+        length >= 1 && place >= self.start && place <= self.end && length <= self.end - place
+    }
+}
+
+/// A window; `key` is the last key it had, 0 before the first, and the rest counts while it is live.
+#[derive(Clone, Copy, Debug, Default, PartialEq, Eq)]
+pub struct Window {
+    pub live: bool,
+    pub key: u8,
+    pub base: u64,
+    pub length: u64,
+    pub place: u64,
+    pub rights: u8,
+}
+
+/// A receive buffer.
+#[derive(Clone, Copy, Debug, Default, PartialEq, Eq)]
+pub struct Buffer {
+    pub start: u64,
+    pub length: u64,
+}
+
+/// Whether a stream is open, and how it ended.
+#[derive(Clone, Copy, Debug, Default, PartialEq, Eq)]
+pub enum Condition {
+    #[default]
+    Closed,
+    Open,
+    Faulted(Fault),
+    Terminated,
+}
+
+/// A stream; `sending` is the opcode of a Send under way and `taken` its bytes so far.
+#[derive(Clone, Debug, Default, PartialEq, Eq)]
+pub struct Stream {
+    pub condition: Condition,
+    pub crc: bool,
+    pub next_msn: [u32; 3],
+    pub buffers: Fifo<Buffer>,
+    pub reads: Fifo<ReadRequest>,
+    pub sending: Option<u8>,
+    pub taken: u64,
+}
+
+/// The whole box but for the lent store.
+#[derive(Clone, Debug, PartialEq, Eq)]
+pub struct Device {
+    pub length: u64,
+    pub parts: [Part; DOMAINS],
+    pub streams: [Stream; STREAMS],
+    pub windows: [Window; WINDOWS],
+}
+
+impl Default for Device {
+    /// Gives the box that a refused opening leaves.
+    fn default() -> Self {
+        Device {
+            length: 0,
+            parts: [Part::default(); DOMAINS],
+            streams: std::array::from_fn(|_| Stream::default()),
+            windows: [Window::default(); WINDOWS],
+        }
+    }
+}
+
+/// Gives the domain that owns a stream.
+pub fn stream_domain(stream: usize) -> usize {
+    stream / STREAMS_PER_DOMAIN
+}
+
+/// Gives the domain that owns a window.
+pub fn window_domain(window: usize) -> usize {
+    window / WINDOWS_PER_DOMAIN
+}
+
+/// Takes a number that is below `limit` as an index.
+fn index(number: u64, limit: usize) -> Result<usize, Refusal> {
+    if number < limit as u64 {
+        Ok(number as usize)
+    } else {
+        Err(Refusal::OutOfRange)
+    }
+}
+
+/// Says whether the parts stand in order inside a store of this length.
+fn parts_fit(length: u64, parts: &[Part; DOMAINS]) -> bool {
+    let mut free_from = 0;
+    for part in parts {
+        if part.start < free_from || part.end < part.start || part.end > length {
+            return false;
+        }
+        free_from = part.end;
+    }
+    true
+}
+
+impl Device {
+    /// Opens the box anew; refused, it is left with length 0 and empty parts.
+    pub fn open(&mut self, length: u64, parts: [Part; DOMAINS]) -> Result<(), Refusal> {
+        *self = Device::default();
+        if !(1..=MAX_STORE).contains(&length) {
+            return Err(Refusal::OutOfRange);
+        }
+        if !parts_fit(length, &parts) {
+            return Err(Refusal::Extent);
+        }
+        self.length = length;
+        self.parts = parts;
+        Ok(())
+    }
+
+    /// Opens a stream with the CRC on or off.
+    pub fn open_stream(&mut self, stream: u64, crc: bool) -> Result<(), Refusal> {
+        let record = &mut self.streams[index(stream, STREAMS)?];
+        if record.condition != Condition::Closed {
+            return Err(Refusal::AlreadyOpen);
+        }
+        *record = Stream {
+            condition: Condition::Open,
+            crc,
+            next_msn: [1; 3],
+            ..Stream::default()
+        };
+        Ok(())
+    }
+
+    /// Closes a stream and gives its numbers of unfinished buffers and untaken reads.
+    pub fn close_stream(&mut self, stream: u64) -> Result<(usize, usize), Refusal> {
+        let record = &mut self.streams[index(stream, STREAMS)?];
+        if record.condition == Condition::Closed {
+            return Err(Refusal::NotOpen);
+        }
+        let closed = std::mem::take(record);
+        Ok((closed.buffers.len(), closed.reads.len()))
+    }
+
+    /// Registers a window.
+    pub fn register(
+        &mut self,
+        window: u64,
+        key: u64,
+        base: u64,
+        length: u64,
+        place: u64,
+        rights: u64,
+    ) -> Result<(), Refusal> {
+        let number = index(window, WINDOWS)?;
+        if !(1..=255).contains(&key) || !(1..=3).contains(&rights) {
+            return Err(Refusal::OutOfRange);
+        }
+        let part = self.parts[window_domain(number)];
+        let entry = &mut self.windows[number];
+        if entry.live {
+            return Err(Refusal::WindowLive);
+        }
+        if u64::from(entry.key) == key {
+            return Err(Refusal::KeyReused);
+        }
+        if !part.holds(place, length) || base.checked_add(length).is_none() {
+            return Err(Refusal::Extent);
+        }
+        *entry = Window {
+            live: true,
+            key: key as u8,
+            base,
+            length,
+            place,
+            rights: rights as u8,
+        };
+        Ok(())
+    }
+
+    /// Drops a live window.
+    pub fn drop_window(&mut self, window: u64) -> Result<(), Refusal> {
+        let entry = &mut self.windows[index(window, WINDOWS)?];
+        if !entry.live {
+            return Err(Refusal::WindowDead);
+        }
+        entry.live = false;
+        Ok(())
+    }
+
+    /// Posts a receive buffer at the end of a stream's queue.
+    pub fn post(&mut self, stream: u64, start: u64, length: u64) -> Result<(), Refusal> {
+        let number = self.usable(stream)?;
+        if !self.parts[stream_domain(number)].holds(start, length) {
+            return Err(Refusal::Extent);
+        }
+        let buffers = &mut self.streams[number].buffers;
+        if buffers.is_full() {
+            return Err(Refusal::BuffersFull);
+        }
+        buffers.push(Buffer { start, length });
+        Ok(())
+    }
+
+    /// Takes the oldest waiting read of a stream.
+    pub fn take_read(&mut self, stream: u64) -> Result<ReadRequest, Refusal> {
+        let number = self.usable(stream)?;
+        self.streams[number].reads.pop().ok_or(Refusal::NoRead)
+    }
+
+    /// Counts the live windows of a domain.
+    pub fn live(&self, domain: u64) -> Result<usize, Refusal> {
+        let slots = self.slots(domain)?;
+        Ok(slots.iter().filter(|window| window.live).count())
+    }
+
+    /// Gives the lowest free slot of a domain, 16 if there is none.
+    pub fn free(&self, domain: u64) -> Result<usize, Refusal> {
+        let slots = self.slots(domain)?;
+        let lowest = slots.iter().position(|window| !window.live);
+        Ok(lowest.unwrap_or(WINDOWS_PER_DOMAIN))
+    }
+
+    /// Gives the sixteen windows of a domain.
+    fn slots(&self, domain: u64) -> Result<&[Window], Refusal> {
+        let first = index(domain, DOMAINS)? * WINDOWS_PER_DOMAIN;
+        Ok(&self.windows[first..first + WINDOWS_PER_DOMAIN])
+    }
+
+    /// Takes a stream number whose stream is open and not ended.
+    pub(crate) fn usable(&self, stream: u64) -> Result<usize, Refusal> {
+        let number = index(stream, STREAMS)?;
+        match self.streams[number].condition {
+            Condition::Closed => Err(Refusal::NotOpen),
+            Condition::Open => Ok(number),
+            Condition::Faulted(_) | Condition::Terminated => Err(Refusal::Ended),
+        }
+    }
+}

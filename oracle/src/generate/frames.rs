@@ -1,0 +1,227 @@
+//! Scripts of the stateless commands: frames written and read, whole and damaged.
+
+use std::io::{self, Write};
+
+use super::malformed::{long_line, malform};
+use super::prng::Prng;
+use crate::crc::crc_field;
+use crate::hex;
+use crate::mpa::{fpdu_total, CRC_FIELD, LENGTH_FIELD, MAX_ULPDU};
+use crate::startup::{Role, HEADER, MAX_PRIVATE_DATA};
+
+/// Writes a script of `count` lines.
+pub fn write_script(seed: u64, count: u64, mut out: impl Write) -> io::Result<()> {
+    let mut prng = Prng::new(seed);
+    for _ in 0..count {
+        out.write_all(&line(&mut prng))?;
+        out.write_all(b"\n")?;
+    }
+    out.flush()
+}
+
+/// Gives one line: most often a command, now and then one oddly written.
+pub fn line(prng: &mut Prng) -> Vec<u8> {
+    let short = prng.percent(12);
+    let command = match prng.below(100) {
+        0..=1 => format!("# {}", prng.draw()),
+        2..=27 => fpdu(prng, short),
+        28..=61 => unframe(prng, short),
+        62..=77 => startup(prng, short),
+        _ => unstartup(prng, short),
+    };
+    let command = command.into_bytes();
+    match (short, prng.below(150)) {
+        (true, 0) => long_line(prng, &command),
+        (true, _) => malform(prng, &command),
+        (false, _) => command,
+    }
+}
+
+/// Gives a length of a ULPDU: mostly short, at times near the limit or far past it.
+fn ulpdu_length(prng: &mut Prng, short: bool) -> usize {
+    let length = match prng.below(100) {
+        _ if short => prng.below(30),
+        0..=81 => prng.below(41),
+        82..=86 => prng.between(2046, 2050),
+        87..=97 => prng.below(300),
+        98 => prng.below(2500),
+        _ => prng.below(9001),
+    };
+    length as usize
+}
+
+/// Gives a slice's length near what is needed.
+fn room(prng: &mut Prng, needed: usize) -> u64 {
+    let needed = needed as u64;
+    match prng.below(12) {
+        0..=3 => needed,
+        4 | 5 => needed.saturating_sub(1),
+        6 => 0,
+        7 => needed + 1,
+        8 => needed + prng.below(500),
+        9 => prng.below(needed + 1),
+        10 => prng.pick(&[65_535, 65_536, 65_537, 1 << 32]),
+        _ => u64::MAX,
+    }
+}
+
+/// Writes bytes in hex of either case.
+fn hex_word(prng: &mut Prng, bytes: &[u8]) -> String {
+    let word = hex::encode(bytes);
+    if prng.percent(10) {
+        word.to_ascii_uppercase()
+    } else {
+        word
+    }
+}
+
+/// Gives `on` or `off`.
+fn on_off(prng: &mut Prng) -> &'static str {
+    prng.pick(&["on", "on", "off"])
+}
+
+/// Gives a line that writes an FPDU.
+fn fpdu(prng: &mut Prng, short: bool) -> String {
+    let length = ulpdu_length(prng, short);
+    let ulpdu = prng.bytes(length);
+    let room = room(prng, fpdu_total(length));
+    format!("fpdu {} {room}", hex_word(prng, &ulpdu))
+}
+
+/// Gives a line that reads an FPDU, good or damaged.
+fn unframe(prng: &mut Prng, short: bool) -> String {
+    let length = ulpdu_length(prng, short);
+    let mut frame = good_fpdu(prng, length, false);
+    match prng.below(20) {
+        0..=5 => (),
+        6 | 7 => flip_bit(prng, &mut frame),
+        8 => drop(frame.pop()),
+        9 => frame.truncate(prng.index(frame.len())),
+        10 => frame.truncate(prng.index(3)),
+        11 | 12 => append(prng, &mut frame),
+        13 | 14 => frame = good_fpdu(prng, length, true),
+        15 | 16 => spoil_crc(prng, &mut frame),
+        17 => frame[..LENGTH_FIELD].copy_from_slice(&prng.bytes(LENGTH_FIELD)),
+        18 => {
+            let over = prng.pick(&[2048u16, 2049, 2050, 0x8000, 0xFFFF]);
+            frame[..LENGTH_FIELD].copy_from_slice(&over.to_be_bytes());
+            if prng.percent(30) {
+                frame.truncate(LENGTH_FIELD);
+            }
+        }
+        _ => frame.clear(),
+    }
+    format!("unframe {} {}", on_off(prng), hex_word(prng, &frame))
+}
+
+/// Gives an FPDU with the right CRC, its pad not zero where asked.
+fn good_fpdu(prng: &mut Prng, length: usize, odd_pad: bool) -> Vec<u8> {
+    let field = length.min(usize::from(u16::MAX)) as u16;
+    let mut frame = field.to_be_bytes().to_vec();
+    frame.extend(prng.bytes(length));
+    let pad = fpdu_total(length) - CRC_FIELD - frame.len();
+    if odd_pad {
+        frame.extend(prng.bytes(pad));
+    } else {
+        frame.resize(frame.len() + pad, 0);
+    }
+    frame.extend(crc_field(&frame));
+    debug_assert!(length > MAX_ULPDU || frame.len() == fpdu_total(length));
+    frame
+}
+
+/// Flips one bit.
+fn flip_bit(prng: &mut Prng, bytes: &mut [u8]) {
+    let at = prng.index(bytes.len());
+    bytes[at] ^= 1 << prng.below(8);
+}
+
+/// Puts some bytes behind.
+fn append(prng: &mut Prng, bytes: &mut Vec<u8>) {
+    let count = prng.index(12) + 1;
+    bytes.extend(prng.bytes(count));
+}
+
+/// Writes another CRC: any, all zero, or the right one in the other byte order.
+fn spoil_crc(prng: &mut Prng, frame: &mut [u8]) {
+    let at = frame.len() - CRC_FIELD;
+    match prng.below(3) {
+        0 => frame[at..].copy_from_slice(&prng.bytes(CRC_FIELD)),
+        1 => frame[at..].fill(0),
+        _ => frame[at..].reverse(),
+    }
+}
+
+/// Gives a length of private data.
+fn data_length(prng: &mut Prng, short: bool) -> usize {
+    let length = match prng.below(100) {
+        _ if short => prng.below(9),
+        0..=79 => prng.below(24),
+        80..=89 => prng.between(510, 514),
+        90..=97 => prng.below(530),
+        _ => prng.below(1500),
+    };
+    length as usize
+}
+
+/// Names the role in a script.
+fn role_word(role: Role) -> &'static str {
+    match role {
+        Role::Request => "req",
+        Role::Reply => "rep",
+    }
+}
+
+/// Gives a line that writes a startup frame.
+fn startup(prng: &mut Prng, short: bool) -> String {
+    let role = prng.pick(&["req", "req", "rep"]);
+    let (crc, reject) = (prng.below(2), u8::from(prng.percent(35)));
+    let length = data_length(prng, short);
+    let data = prng.bytes(length);
+    let room = room(prng, HEADER + length);
+    let data = hex_word(prng, &data);
+    format!("startup {role} {crc} {reject} {data} {room}")
+}
+
+/// Gives a line that reads a startup frame, good or damaged in one place or two.
+fn unstartup(prng: &mut Prng, short: bool) -> String {
+    let role = prng.pick(&[Role::Request, Role::Reply]);
+    let length = data_length(prng, short);
+    let mut frame = role.key().to_vec();
+    frame.extend([prng.draw() as u8 & 0x60, 1]);
+    frame.extend((length as u16).to_be_bytes());
+    frame.extend(prng.bytes(length));
+    for _ in 0..prng.pick(&[0, 1, 1, 1, 1, 2]) {
+        damage_startup(prng, &mut frame);
+    }
+    let frame = hex_word(prng, &frame);
+    let expected = match prng.percent(8) {
+        true => prng.pick(&["req", "rep"]),
+        false => role_word(role),
+    };
+    format!("unstartup {expected} {frame}")
+}
+
+/// Damages a startup frame in one place.
+fn damage_startup(prng: &mut Prng, frame: &mut Vec<u8>) {
+    if frame.len() < HEADER {
+        return;
+    }
+    match prng.below(12) {
+        0 => flip_bit(prng, &mut frame[..16]),
+        1 => flip_bit(prng, frame),
+        2 => frame[17] = prng.pick(&[0, 2, 3, 0x81, 0xFF]),
+        3 => frame[16] |= 0x80,
+        4 => frame[16] = prng.draw() as u8,
+        5 => frame[16] |= 0x1F,
+        6 | 7 => {
+            let limit = MAX_PRIVATE_DATA as u16;
+            let length = prng.pick(&[0, 1, limit - 1, limit, limit + 1, 0x8000, 0xFFFF]);
+            frame[18..HEADER].copy_from_slice(&length.to_be_bytes());
+        }
+        8 => frame.truncate(prng.index(frame.len())),
+        9 => frame.truncate(prng.between(18, 21) as usize),
+        10 => drop(frame.pop()),
+        _ => append(prng, frame),
+    }
+}

@@ -1,0 +1,11 @@
+//! Random scripts, the same for the same seed.
+
+pub mod draft;
+mod faults;
+pub mod frames;
+pub mod malformed;
+pub mod nights;
+mod openings;
+pub mod prng;
+mod receiving;
+pub mod segments;

@@ -1,0 +1,61 @@
+//! Openings of the box: most of them good, some refused.
+
+use super::prng::Prng;
+use crate::device::{DOMAINS, MAX_STORE};
+
+/// Gives a line that opens the box.
+pub fn opening(prng: &mut Prng) -> String {
+    let any = prng.between(64, 20_000);
+    let length = match prng.below(16) {
+        0 | 1 => prng.pick(&[0, MAX_STORE + 1, u64::MAX]),
+        2 => prng.pick(&[1, 1_048_577, MAX_STORE]),
+        3 => 1_048_576,
+        4..=7 => 4096,
+        8..=11 => 16_384,
+        12..=13 => 65_536,
+        _ => any,
+    };
+    let mut ends = if prng.percent(50) {
+        quarters(length)
+    } else {
+        scattered(prng, length)
+    };
+    if prng.percent(30) {
+        break_rule(prng, length, &mut ends);
+    }
+    let words: Vec<String> = ends.iter().map(u64::to_string).collect();
+    format!("open {length} {}", words.join(" "))
+}
+
+/// Gives four parts of a quarter each.
+fn quarters(length: u64) -> Vec<u64> {
+    let quarter = length / DOMAINS as u64;
+    (0..DOMAINS as u64)
+        .flat_map(|domain| [domain * quarter, (domain + 1) * quarter])
+        .collect()
+}
+
+/// Gives four parts with gaps between, at times an empty one.
+fn scattered(prng: &mut Prng, length: u64) -> Vec<u64> {
+    let mut ends: Vec<u64> = (0..2 * DOMAINS)
+        .map(|_| prng.below(length.saturating_add(1)))
+        .collect();
+    ends.sort_unstable();
+    if prng.percent(25) {
+        let part = 2 * prng.index(DOMAINS);
+        ends[part] = ends[part + 1];
+    }
+    ends
+}
+
+/// Breaks a rule of the parts, or nearly so.
+fn break_rule(prng: &mut Prng, length: u64, ends: &mut [u64]) {
+    let at = prng.index(ends.len());
+    match prng.below(5) {
+        0 => ends[at] = ends[at].wrapping_sub(1),
+        1 => ends[at] = ends[at].wrapping_add(1),
+        2 => ends[7] = length.wrapping_add(1),
+        3 => ends.swap(at, 7 - at),
+        _ => ends[at] = prng.draw(),
+    }
+}

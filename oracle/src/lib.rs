@@ -1,0 +1,20 @@
+//! An RDMA receiver (MPA, DDP, RDMAP) written as a plain state machine, driven by replay scripts.
+//!
+//! The wire forms (`crc`, `mpa`, `startup`, `ddp`, `rdmap`) know nothing of the state (`device`, `judge`, `receive`).
+
+pub mod bigendian;
+pub mod command;
+pub mod crc;
+pub mod ddp;
+pub mod device;
+pub mod fifo;
+pub mod generate;
+pub mod hex;
+mod judge;
+pub mod mpa;
+pub mod rdmap;
+pub mod receive;
+pub mod refusal;
+pub mod script;
+pub mod startup;
+pub mod tally;

@@ -1,0 +1,250 @@
+//! Running a script: each command's answer as a line of text.
+
+use std::io::{self, BufRead, Write};
+
+use crate::command::{parse, Command, Line};
+use crate::device::Device;
+use crate::hex;
+use crate::mpa::{read_fpdu, write_fpdu, Frame};
+use crate::receive::{Answer, Event};
+use crate::refusal::{Fault, Refusal};
+use crate::startup::{read_startup, write_startup, Startup};
+
+/// Bytes of the program's store.
+pub const STORE: usize = 1_048_576;
+
+/// The most bytes of an output slice.
+const MAX_ROOM: u64 = 65_536;
+
+/// A device with the program's store and the count of bytes that it lends.
+pub struct Session {
+    pub device: Device,
+    pub store: Vec<u8>,
+    lent: usize,
+}
+
+impl Default for Session {
+    /// Starts with a zero store and the box that a refused opening leaves.
+    fn default() -> Self {
+        Session {
+            device: Device::default(),
+            store: vec![0; STORE],
+            lent: 0,
+        }
+    }
+}
+
+impl Session {
+    /// Runs one line without its newline; a comment or an empty line has no answer.
+    pub fn run_line(&mut self, line: &[u8]) -> Option<String> {
+        match parse(line) {
+            Line::Silent => None,
+            Line::Bad => Some(bad()),
+            Line::Command(command) => Some(match self.execute(command) {
+                Ok(answer) => answer,
+                Err(refusal) => refused(refusal),
+            }),
+        }
+    }
+
+    /// Runs one command.
+    fn execute(&mut self, command: Command) -> Result<String, Refusal> {
+        let device = &mut self.device;
+        Ok(match command {
+            Command::Open { length, parts } => {
+                self.lent = length.min(STORE as u64) as usize;
+                device.open(length, parts)?;
+                String::from("opened")
+            }
+            Command::Stream { stream, crc } => done(device.open_stream(stream, crc))?,
+            Command::Close(stream) => {
+                let (buffers, reads) = device.close_stream(stream)?;
+                format!("closed {buffers} {reads}")
+            }
+            Command::Register {
+                window,
+                key,
+                base,
+                length,
+                place,
+                rights,
+            } => done(device.register(window, key, base, length, place, rights))?,
+            Command::Drop(window) => done(device.drop_window(window))?,
+            Command::Post {
+                stream,
+                start,
+                length,
+            } => done(device.post(stream, start, length))?,
+            Command::Receive {
+                stream,
+                bytes,
+                lent,
+            } => self.receive(stream, &bytes, lent),
+            Command::Take(stream) => {
+                let read = device.take_read(stream)?;
+                format!(
+                    "read {} {} {} {} {}",
+                    read.sink_stag, read.sink_to, read.size, read.source_stag, read.source_to
+                )
+            }
+            Command::Live(domain) => format!("live {}", device.live(domain)?),
+            Command::Free(domain) => format!("free {}", device.free(domain)?),
+            Command::Bytes { start, length } => self.show(start, length),
+            Command::Fill { start, bytes } => self.fill(start, &bytes),
+            stateless => return frame(stateless),
+        })
+    }
+
+    /// Receives with the store's front lent.
+    fn receive(&mut self, stream: u64, bytes: &[u8], lent: Option<u64>) -> String {
+        let lent = lent.unwrap_or(self.lent as u64);
+        if lent > STORE as u64 {
+            return bad();
+        }
+        let store = &mut self.store[..lent as usize];
+        answer_text(self.device.receive(store, stream, bytes))
+    }
+
+    /// Shows bytes of the store.
+    fn show(&self, start: u64, length: u64) -> String {
+        match store_range(start, length) {
+            Some(range) => format!("bytes {}", hex::encode(&self.store[range])),
+            None => bad(),
+        }
+    }
+
+    /// Puts bytes into the store.
+    fn fill(&mut self, start: u64, bytes: &[u8]) -> String {
+        match store_range(start, bytes.len() as u64) {
+            Some(range) => {
+                self.store[range].copy_from_slice(bytes);
+                String::from("done")
+            }
+            None => bad(),
+        }
+    }
+}
+
+/// Runs a command that has no state.
+fn frame(command: Command) -> Result<String, Refusal> {
+    Ok(match command {
+        Command::Fpdu { ulpdu, room } => wrote(room, |out| write_fpdu(&ulpdu, out))?,
+        Command::Unframe { crc, bytes } => match read_fpdu(crc, &bytes) {
+            Frame::Wait(total) => format!("wait {total}"),
+            Frame::Whole { total, ulpdu } => format!("ulpdu {total} {}", hex::encode(ulpdu)),
+            Frame::Fault(fault) => format!("refused {}", fault.number),
+        },
+        Command::Startup {
+            role,
+            crc,
+            reject,
+            private_data,
+            room,
+        } => wrote(room, |out| {
+            write_startup(role, crc, reject, &private_data, out)
+        })?,
+        Command::Unstartup { role, bytes } => match read_startup(role, &bytes) {
+            Startup::Wait(total) => format!("wait {total}"),
+            Startup::Whole {
+                total,
+                crc,
+                reject,
+                private_data,
+            } => format!(
+                "startup {total} {} {} {}",
+                u8::from(crc),
+                u8::from(reject),
+                hex::encode(private_data)
+            ),
+            Startup::Refused(refusal) => refused(refusal),
+        },
+        _ => bad(),
+    })
+}
+
+/// Lets a writer fill a slice of `room` bytes and shows what it wrote.
+fn wrote(
+    room: u64,
+    write: impl FnOnce(&mut [u8]) -> Result<usize, Refusal>,
+) -> Result<String, Refusal> {
+    let mut out = vec![0; room.min(MAX_ROOM) as usize];
+    let total = write(&mut out)?;
+    Ok(format!("wrote {total} {}", hex::encode(&out[..total])))
+}
+
+/// Gives a range of the store, or nothing where it goes past the store's size.
+fn store_range(start: u64, length: u64) -> Option<std::ops::Range<usize>> {
+    let end = start.checked_add(length)?;
+    (end <= STORE as u64).then_some(start as usize..end as usize)
+}
+
+/// Writes what receive answers.
+fn answer_text(answer: Answer) -> String {
+    match answer {
+        Answer::Wait(total) => format!("wait {total}"),
+        Answer::Taken { total, event } => format!("taken {total}{}", event_text(event)),
+        Answer::Refused(refusal) => refused(refusal),
+        Answer::Fault(Fault {
+            number,
+            layer,
+            etype,
+            code,
+        }) => format!("refused {number} {layer}/{etype}/{code:02X}"),
+    }
+}
+
+/// Writes an event, a space before it where there is one.
+fn event_text(event: Event) -> String {
+    match event {
+        Event::None => String::new(),
+        Event::Send {
+            start,
+            length,
+            opcode,
+            invalidated,
+        } => {
+            let stag = invalidated.map_or(String::new(), |stag| format!(" stag {stag}"));
+            format!(" send {start} {length} {opcode}{stag}")
+        }
+        Event::Terminate(terminate) => format!(
+            " terminate {} {} {}",
+            terminate.layer, terminate.etype, terminate.code
+        ),
+    }
+}
+
+/// Writes a local refusal.
+fn refused(refusal: Refusal) -> String {
+    format!("refused {}", refusal.number())
+}
+
+/// Writes the answer of a call that gives nothing back.
+fn done(result: Result<(), Refusal>) -> Result<String, Refusal> {
+    result.map(|()| String::from("done"))
+}
+
+/// Writes the answer to a line that is no command.
+fn bad() -> String {
+    String::from("bad")
+}
+
+/// Runs a whole script; `watch` is shown each line with its answer.
+pub fn run(
+    mut input: impl BufRead,
+    mut output: impl Write,
+    mut watch: impl FnMut(&[u8], &str),
+) -> io::Result<()> {
+    let mut session = Session::default();
+    let mut line = Vec::new();
+    while input.read_until(b'\n', &mut line)? > 0 {
+        if line.last() == Some(&b'\n') {
+            line.pop();
+        }
+        if let Some(answer) = session.run_line(&line) {
+            writeln!(output, "{answer}")?;
+            watch(&line, &answer);
+        }
+        line.clear();
+    }
+    output.flush()
+}

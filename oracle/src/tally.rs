@@ -1,0 +1,70 @@
+//! A count of how often each kind of answer was given.
+
+use std::collections::BTreeMap;
+use std::fmt;
+
+/// Counts by command word and kind of answer.
+#[derive(Clone, Debug, Default)]
+pub struct Tally {
+    counts: BTreeMap<(String, String), u64>,
+}
+
+impl Tally {
+    /// Counts one line and its answer.
+    pub fn add(&mut self, line: &[u8], answer: &str) {
+        let kind = answer_kind(answer);
+        let command = if kind == "bad" {
+            String::from("-")
+        } else {
+            command_word(line)
+        };
+        *self.counts.entry((command, kind)).or_default() += 1;
+    }
+
+    /// Gives how often a command had an answer of this kind.
+    pub fn count(&self, command: &str, kind: &str) -> u64 {
+        let key = (String::from(command), String::from(kind));
+        self.counts.get(&key).copied().unwrap_or(0)
+    }
+
+    /// Gives how often an answer of this kind was given, whatever the command.
+    pub fn count_all(&self, kind: &str) -> u64 {
+        let same = self.counts.iter().filter(|((_, k), _)| k == kind);
+        same.map(|(_, count)| count).sum()
+    }
+}
+
+impl fmt::Display for Tally {
+    /// Writes one line for each kind.
+    fn fmt(&self, out: &mut fmt::Formatter) -> fmt::Result {
+        for ((command, kind), count) in &self.counts {
+            writeln!(out, "{count:9}  {command}: {kind}")?;
+        }
+        Ok(())
+    }
+}
+
+/// Gives the first word of a line.
+fn command_word(line: &[u8]) -> String {
+    let mut words = line.split(|&byte| byte == b' ');
+    let word = words.find(|word| !word.is_empty()).unwrap_or(b"");
+    String::from_utf8_lossy(word).into_owned()
+}
+
+/// Gives the words of an answer that are not values: a refusal is kept whole.
+fn answer_kind(answer: &str) -> String {
+    if answer.starts_with("refused") {
+        return String::from(answer);
+    }
+    let mut kind = String::new();
+    for word in answer.split(' ').take(7) {
+        let named = ["send", "stag", "terminate"].contains(&word);
+        if kind.is_empty() || named {
+            if named {
+                kind.push(' ');
+            }
+            kind.push_str(word);
+        }
+    }
+    kind
+}
