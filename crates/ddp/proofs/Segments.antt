@@ -1,0 +1,67 @@
+-- What a frame or a header that was read says of the lengths: by cases on the tests of the definition, of which only one way
+-- gives that answer.
+use Prim.Native.Nat.{ℕ, _+_, _≤_}
+use mathlib.Core.Path.{_≡_, refl}
+use mathlib.Core.Bool.{Bool, true, false, not}
+use mathlib.Core.List.{List}
+use native.Mathlib.Omega.{arith}
+use lib.ListN.{length, getD}
+use lib.Dec.{ltb}
+use borrow.Author.Tests.{ltb-false}
+use Rattle.wire.specs.Wire.{pick, both, be16At}
+use Rattle.mpa.specs.Fpdu.{maxUlpdu, totalOf, crcRight, fpduReadOf, fpduRead}
+use Rattle.mpa.specs.declared.FpduRead.the-variants.{Wait, Refused as FpduRefused, Taken}
+use Rattle.ddp.specs.Refusal.{segmentTooShort, taggedVersion, untaggedVersion}
+use Rattle.ddp.specs.Header.{taggedBit, versionOne, taggedAt, untaggedAt, taggedRead, untaggedRead, headerRead}
+use Rattle.ddp.specs.declared.header.TaggedHeader.{TaggedHeader}
+use Rattle.ddp.specs.declared.header.UntaggedHeader.{UntaggedHeader}
+use Rattle.ddp.specs.declared.header.HeaderRead.the-variants.{Tagged, Untagged, Refused}
+
+-- the ULPDU of a frame lies in the bytes
+pub ulpdu-inside : (on : Bool) (bytes : List ℕ) (total start len : ℕ) → fpduRead on bytes ≡ Taken total start len → start + len ≤ length bytes
+unfolding fpduRead fpduReadOf
+ulpdu-inside on bytes total start len e =
+    go (ltb (length bytes) 2) (ltb maxUlpdu (be16At bytes 0)) (ltb (length bytes) (totalOf (be16At bytes 0)))
+    (both on (not (crcRight bytes (be16At bytes 0)))) refl e
+  where
+    go :
+        (a b c d : Bool) → ltb (length bytes) (totalOf (be16At bytes 0)) ≡ c →
+        pick a (Wait 2) (pick b (FpduRefused 20) (pick c (Wait (totalOf (be16At bytes 0))) (pick d (FpduRefused 21) (Taken (totalOf (be16At bytes 0)) 2 (be16At bytes 0)))))
+        ≡ Taken total start len →
+        start + len ≤ length bytes
+    go true b c d q e = let no : _≡_ {A = ℕ} 0 1 = cc in omega arith
+    go false true c d q e = let no : _≡_ {A = ℕ} 0 1 = cc in omega arith
+    go false false true d q e = let no : _≡_ {A = ℕ} 0 1 = cc in omega arith
+    go false false false true q e = let no : _≡_ {A = ℕ} 0 1 = cc in omega arith
+    go false false false false q e =
+        let s : _≡_ {A = ℕ} 2 start = cc in
+        let n : be16At bytes 0 ≡ len = cc in
+        omega (arith, ltb-false (length bytes) (totalOf (be16At bytes 0)) q)
+
+-- a tagged header has 14 bytes, and an untagged one 18
+module _ (u : List ℕ) where
+  pub tagged-from : (h : TaggedHeader) → headerRead u ≡ Tagged h → 14 ≤ length u
+  unfolding headerRead
+  tagged-from h e = go (ltb (length u) 14) refl e
+    where
+      go :
+          (a : Bool) → ltb (length u) 14 ≡ a →
+          pick a (Refused segmentTooShort) (pick (taggedBit (getD u 0 0)) (taggedRead u) (untaggedRead u)) ≡ Tagged h → 14 ≤ length u
+      go true q e = let no : _≡_ {A = ℕ} 0 1 = cc in omega arith
+      go false q e = ltb-false _ _ q
+
+  pub untagged-from : (h : UntaggedHeader) → headerRead u ≡ Untagged h → 18 ≤ length u
+  unfolding headerRead taggedRead untaggedRead
+  untagged-from h e = go (ltb (length u) 14) (taggedBit (getD u 0 0)) (versionOne (getD u 0 0)) (ltb (length u) 18) refl e
+    where
+      go :
+          (a b v d : Bool) → ltb (length u) 18 ≡ d →
+          pick a (Refused segmentTooShort)
+          (pick b (pick v (Tagged (taggedAt u)) (Refused taggedVersion)) (pick d (Refused segmentTooShort) (pick v (Untagged (untaggedAt u)) (Refused untaggedVersion))))
+          ≡ Untagged h →
+          18 ≤ length u
+      go true b v d q e = let no : _≡_ {A = ℕ} 0 1 = cc in omega arith
+      go false true true d q e = let no : _≡_ {A = ℕ} 0 1 = cc in omega arith
+      go false true false d q e = let no : _≡_ {A = ℕ} 0 1 = cc in omega arith
+      go false false v true q e = let no : _≡_ {A = ℕ} 0 1 = cc in omega arith
+      go false false v false q e = ltb-false _ _ q

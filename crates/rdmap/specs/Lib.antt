@@ -1,0 +1,4 @@
+pub mod Refusal
+pub mod Read
+pub mod Stream
+pub mod Message

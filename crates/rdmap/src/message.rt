@@ -1,0 +1,404 @@
+// Messages: what a segment that DDP let pass is judged to be (rules 33 to 38). Nothing is changed
+// here.
+ghost use mathlib.Core.Path.{_≡_};
+ghost use Rattle.ddp.specs.Tagged.{taggedOf};
+ghost use Rattle.rdmap.specs.Message.{
+  controlled,
+  mayWrite,
+  writeVerdict,
+  fitsQueue,
+  takesStag,
+  sendVerdict,
+  sourceIn,
+  sourceOf,
+  readVerdict,
+  terminateVerdict,
+  messageVerdict,
+  queuesOf,
+  untaggedVerdict,
+  after,
+  isSend,
+  goesOn,
+  invalidated,
+};
+ghost use Rattle.rdmap.specs.Refusal.{noWriteRight};
+ghost use Rattle.ddp.specs.Untagged.{untaggedOf};
+ghost use Rattle.ddp.specs.Buffer.{noBuffer};
+ghost use Rattle.ddp.specs.Window.{windowAt};
+ghost use Rattle.wire.specs.Wire.{pick, both};
+ghost use lib.ListN.{length, getD};
+use crate::read::ReadRequest;
+use crate::read::request_of;
+use crate::refusal::INVALIDATE_FOREIGN;
+use crate::refusal::INVALIDATE_MISSING;
+use crate::refusal::MALFORMED;
+use crate::refusal::NO_READ_RIGHT;
+use crate::refusal::NO_WRITE_RIGHT;
+use crate::refusal::RDMAP_VERSION;
+use crate::refusal::SOURCE_BOUNDS;
+use crate::refusal::SOURCE_FOREIGN;
+use crate::refusal::SOURCE_MISSING;
+use crate::refusal::SOURCE_WRAP;
+use crate::refusal::UNEXPECTED_OPCODE;
+use crate::stream::Stream;
+use ddp::buffer::Buffer;
+use ddp::header::TaggedHeader;
+use ddp::header::UntaggedHeader;
+use ddp::refusal::Refusal;
+use ddp::tagged::Tagged;
+use ddp::untagged::Queue;
+use ddp::untagged::Untagged;
+use ddp::window::Found;
+use ddp::window::Span;
+use ddp::window::Window;
+
+// Whether the control byte is good.
+pub enum Control {
+    Good,
+    Refused(Refusal),
+}
+
+// The STag that a Send invalidates, with the slot of its window.
+pub enum Invalidate {
+    NoStag,
+    Stag { slot: usize, stag: u32 },
+}
+
+// What a segment is judged to be: refused; an empty Write; a Write to a place of the store; a part
+// of a Send to a place, with its opcode and how many bytes are then taken; the last part, with the
+// buffer's start and the message's length; a Read Request; a Terminate.
+pub enum Verdict {
+    Refused(Refusal),
+    Nothing,
+    Write(u64),
+    SendMore {
+        at: u64,
+        opcode: u8,
+        taken: u32,
+    },
+    SendLast {
+        at: u64,
+        opcode: u8,
+        start: u32,
+        len: u32,
+        invalidate: Invalidate,
+    },
+    Read(ReadRequest),
+    Terminate {
+        layer: u8,
+        etype: u8,
+        code: u8,
+    },
+}
+
+// Judges the control byte, whose opcode fits or not.
+fn judge_control(control: u8, fits: bool) -> Control
+    ensures { λ r. ⌜ r ≡ controlled control fits ⌝ }
+{
+    if control / 64 == 1 {
+        if fits {
+            Control::Good
+        } else {
+            Control::Refused(UNEXPECTED_OPCODE)
+        }
+    } else {
+        Control::Refused(RDMAP_VERSION)
+    }
+}
+
+// The window of a slot; past the sixteen, one that never was live.
+fn window_of(windows: [Window; 16], slot: usize) -> Window
+    ensures { λ r. ⌜ r ≡ windowAt windows slot ⌝ }
+{
+    if slot < 16 {
+        return windows[slot];
+    }
+    Window {
+        live: false,
+        key: 0,
+        rights: 0,
+        place: 0,
+        len: 0,
+        base: 0,
+    }
+}
+
+// Judges the right to write to a window.
+fn judge_right(w: Window, place: u64) -> Verdict
+    ensures { λ r. ⌜ r ≡ pick (mayWrite w) (Verdict.Write place) (Verdict.Refused noWriteRight) ⌝ }
+{
+    if w.rights % 2 == 1 {
+        Verdict::Write(place)
+    } else {
+        Verdict::Refused(NO_WRITE_RIGHT)
+    }
+}
+
+// Judges a tagged segment that DDP has judged.
+fn judge_write(windows: [Window; 16], control: u8, tagged: Tagged) -> Verdict
+    ensures { λ r. ⌜ r ≡ writeVerdict windows control tagged ⌝ }
+{
+    let good = judge_control(control, control % 16 == 0);
+    match tagged {
+        Tagged::Refused(refusal) => Verdict::Refused(refusal),
+        Tagged::Nowhere => unless_refused(good, Verdict::Nothing),
+        Tagged::At { slot, place } => {
+            let w = window_of(windows, slot);
+            unless_refused(good, judge_right(w, place))
+        }
+    }
+}
+
+// The refusal of the control byte, or what was judged further.
+fn unless_refused(control: Control, further: Verdict) -> Verdict
+    ensures { λ r. ⌜ r ≡ after control further ⌝ }
+{
+    match control {
+        Control::Good => further,
+        Control::Refused(refusal) => Verdict::Refused(refusal),
+    }
+}
+
+// Judges a tagged segment with a payload of len bytes.
+pub fn judge_tagged_segment(
+    windows: [Window; 16],
+    domain: u64,
+    h: TaggedHeader,
+    len: u64,
+) -> Verdict
+    ensures { λ r. ⌜ r ≡ writeVerdict windows (h .control) (taggedOf windows domain (h .stag) (h .to) len) ⌝ }
+{
+    let tagged = ddp::tagged::judge_tagged(windows, domain, h.stag, h.to, len);
+    judge_write(windows, h.control, tagged)
+}
+
+// Whether an opcode fits a queue, where a Send with the opcode under is under way (0: none).
+fn fits_queue(qn: u32, under: u8, opcode: u8) -> bool
+    ensures { λ r. ⌜ r ≡ fitsQueue qn under opcode ⌝ }
+{
+    if qn == 0 {
+        return fits_send(under, opcode);
+    }
+    if qn == 1 { opcode == 1 } else { opcode == 7 }
+}
+
+// Whether an opcode is a Send's, and that of the Send under way.
+fn fits_send(under: u8, opcode: u8) -> bool
+    ensures { λ r. ⌜ r ≡ both (isSend opcode) (goesOn under opcode) ⌝ }
+{
+    if opcode < 3 {
+        return false;
+    }
+    if 6 < opcode {
+        return false;
+    }
+    if under == 0 { true } else { under == opcode }
+}
+
+// Whether a Send with this opcode invalidates an STag.
+fn takes_stag(opcode: u8) -> bool
+    ensures { λ r. ⌜ r ≡ takesStag opcode ⌝ }
+{
+    if opcode == 4 { true } else { opcode == 6 }
+}
+
+// Judges a Send's segment into the buffer b, whose payload is the message's bytes from start up to end.
+fn judge_send(
+    windows: [Window; 16],
+    domain: u64,
+    b: Buffer,
+    h: UntaggedHeader,
+    start: u32,
+    end: u32,
+) -> Verdict
+    ensures { λ r. ⌜ r ≡ sendVerdict windows domain b h start end ⌝ }
+{
+    let opcode = h.control % 16;
+    let at = (b.start as u64) + (start as u64);
+    if h.last {
+        if takes_stag(opcode) {
+            return judge_invalidate(
+                ddp::window::find(windows, domain, h.stag),
+                b,
+                opcode,
+                start,
+                end,
+                h.stag,
+            );
+        }
+        return Verdict::SendLast {
+            at,
+            opcode,
+            start: b.start,
+            len: end,
+            invalidate: Invalidate::NoStag,
+        };
+    }
+    Verdict::SendMore {
+        at,
+        opcode,
+        taken: end,
+    }
+}
+
+// Judges the STag that the last segment of a Send invalidates.
+fn judge_invalidate(found: Found, b: Buffer, opcode: u8, start: u32, end: u32, stag: u32) -> Verdict
+    ensures { λ r. ⌜ r ≡ invalidated b opcode start end stag found ⌝ }
+{
+    match found {
+        Found::Foreign => Verdict::Refused(INVALIDATE_FOREIGN),
+        Found::Missing => Verdict::Refused(INVALIDATE_MISSING),
+        Found::Slot(slot) => Verdict::SendLast {
+            at: (b.start as u64) + (start as u64),
+            opcode,
+            start: b.start,
+            len: end,
+            invalidate: Invalidate::Stag { slot, stag },
+        },
+    }
+}
+
+// Judges the source of a read in its window.
+fn judge_source_in(w: Window, read: ReadRequest, span: Span) -> Verdict
+    ensures { λ r. ⌜ r ≡ sourceIn w read span ⌝ }
+{
+    match span {
+        Span::Wrap => Verdict::Refused(SOURCE_WRAP),
+        Span::Outside => Verdict::Refused(SOURCE_BOUNDS),
+        Span::Inside(_) => {
+            if 2 <= w.rights {
+                Verdict::Read(read)
+            } else {
+                Verdict::Refused(NO_READ_RIGHT)
+            }
+        }
+    }
+}
+
+// Judges the source of a read.
+fn judge_source(windows: [Window; 16], read: ReadRequest, found: Found) -> Verdict
+    ensures { λ r. ⌜ r ≡ sourceOf windows read found ⌝ }
+{
+    match found {
+        Found::Foreign => Verdict::Refused(SOURCE_FOREIGN),
+        Found::Missing => Verdict::Refused(SOURCE_MISSING),
+        Found::Slot(slot) => {
+            let w = window_of(windows, slot);
+            let span = ddp::window::span_of(w, read.source_to, read.size as u64);
+            judge_source_in(w, read, span)
+        }
+    }
+}
+
+// Judges a Read Request.
+fn judge_read(windows: [Window; 16], domain: u64, last: bool, payload: &[u8]) -> Verdict
+    ensures { λ r. ⌜ r ≡ readVerdict windows domain last (now (payload .entry)) ⌝ }
+{
+    if last {
+        if payload.len() == 28 {
+            let read = request_of(payload);
+            let found = ddp::window::find(windows, domain, read.source_stag);
+            return judge_source(windows, read, found);
+        }
+        return Verdict::Refused(MALFORMED);
+    }
+    Verdict::Refused(MALFORMED)
+}
+
+// Judges a Terminate.
+fn judge_terminate(last: bool, payload: &[u8]) -> Verdict
+    ensures { λ r. ⌜ r ≡ terminateVerdict last (now (payload .entry)) ⌝ }
+{
+    if last {
+        if 4 <= payload.len() {
+            let b = payload[0];
+            return Verdict::Terminate {
+                layer: b / 16,
+                etype: b % 16,
+                code: payload[1],
+            };
+        }
+        return Verdict::Refused(MALFORMED);
+    }
+    Verdict::Refused(MALFORMED)
+}
+
+// The buffer that a stream's Sends go to; zeros where none waits.
+fn buffer_of(s: Stream) -> Buffer
+    ensures { λ r. ⌜ r ≡ getD (s .buffers .entries) 0 noBuffer ⌝ }
+{
+    let buffers = s.buffers;
+    let entries = buffers.entries;
+    entries[0]
+}
+
+// Judges an untagged segment by its queue.
+fn judge_message(
+    windows: [Window; 16],
+    domain: u64,
+    s: Stream,
+    h: UntaggedHeader,
+    start: u32,
+    end: u32,
+    payload: &[u8],
+) -> Verdict
+    ensures { λ r. ⌜ r ≡ messageVerdict windows domain s h start end (now (payload .entry)) ⌝ }
+{
+    if h.qn == 0 {
+        let b = buffer_of(s);
+        return judge_send(windows, domain, b, h, start, end);
+    }
+    if h.qn == 1 {
+        return judge_read(windows, domain, h.last, payload);
+    }
+    judge_terminate(h.last, payload)
+}
+
+// What each queue of a stream expects.
+fn queues_of(s: Stream) -> [Queue; 3]
+    ensures { λ r. ⌜ r ≡ queuesOf s ⌝ }
+{
+    let b = buffer_of(s);
+    let buffers = s.buffers;
+    let reads = s.reads;
+    let sends = Queue {
+        msn: s.send_msn,
+        room: 0 < buffers.count,
+        limit: b.len,
+        taken: s.taken,
+    };
+    let requests = Queue {
+        msn: s.read_msn,
+        room: reads.count < 8,
+        limit: 28,
+        taken: 0,
+    };
+    let terminates = Queue {
+        msn: s.terminate_msn,
+        room: true,
+        limit: 52,
+        taken: 0,
+    };
+    [sends, requests, terminates]
+}
+
+// Judges an untagged segment with its payload.
+pub fn judge_untagged_segment(
+    windows: [Window; 16],
+    domain: u64,
+    s: Stream,
+    h: UntaggedHeader,
+    payload: &[u8],
+) -> Verdict
+    ensures { λ r. ⌜ r ≡ untaggedVerdict windows domain s h (now (payload .entry)) (untaggedOf (queuesOf s) (h .qn) (h .msn) (h .mo) (length (now (payload .entry)))) ⌝ }
+{
+    let queues = queues_of(s);
+    match ddp::untagged::judge_untagged(queues, h.qn, h.msn, h.mo, payload.len() as u64) {
+        Untagged::Refused(refusal) => Verdict::Refused(refusal),
+        Untagged::At { start, end } => {
+            let good = judge_control(h.control, fits_queue(h.qn, s.opcode, h.control % 16));
+            let further = judge_message(windows, domain, s, h, start, end, payload);
+            unless_refused(good, further)
+        }
+    }
+}
