@@ -1,7 +1,7 @@
 -- Laws that several proofs cite: tests on numbers that are the same test, what the range tests bound, and one step of each
 -- recursion over a list.
 use Prim.Native.Nat.{ℕ, _+_, _/_, _%_, _≤_, _<_}
-use mathlib.Core.Path.{_≡_, refl, sym, ap, _∙_}
+use mathlib.Core.Path.{_≡_, refl, ap}
 use mathlib.Core.Bool.{Bool, true, false}
 use mathlib.Core.List.{List, [], _∷_, _++_}
 use native.Mathlib.Omega.{arith}
@@ -10,7 +10,7 @@ use native.Mathlib.Decide.{decLt}
 use lib.ListN.{length, getD, drop, drop-of-length-le}
 use lib.Seq.{drop-cons}
 use lib.Dec.{leb, ltb, eqb}
-use borrow.Author.Tests.{leb-true, leb-false, le-leb, lt-leb, ltb-true, ltb-false, lt-ltb, le-ltb}
+use borrow.Author.Tests.{leb-true, leb-false, le-leb, lt-leb}
 use Rattle.wire.specs.Wire.{pick, both}
 use Rattle.ddp.specs.Part.{inPart}
 use Rattle.ddp.specs.Window.{inRange, windowFits, noWindow, windowAt, liveCount, lowestFree, named, found}
@@ -33,16 +33,13 @@ leb-same a b c d f g = go (leb c d) refl
 pub ltb-same : (a b c d : ℕ) → (a < b → c < d) → (c < d → a < b) → ltb a b ≡ ltb c d
 ltb-same a b c d f g = leb-same _ _ _ _ f g
 
-both-left : (a b : Bool) → both a b ≡ true → a ≡ true
+pub both-left : (a b : Bool) → both a b ≡ true → a ≡ true
 both-left true b e = refl
 both-left false b e = e
 
-both-right : (a b : Bool) → both a b ≡ true → b ≡ true
+pub both-right : (a b : Bool) → both a b ≡ true → b ≡ true
 both-right true b e = e
-both-right false b e = absurd (no e)
-  where
-    no : false ≡ true → ⊥
-    no e = let z : _≡_ {A = ℕ} 0 1 = cc in omega arith
+both-right false b e = cc
 
 -- what lies in a part ends in it
 pub part-bound : (p : Part) (start len : ℕ) → inPart p start len ≡ true → start + len ≤ p .end

@@ -1,3 +1,4 @@
+pub mod Inside
 pub mod Laws
 pub mod Round
 pub mod Segments

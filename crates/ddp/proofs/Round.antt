@@ -1,15 +1,15 @@
--- Reading what was written, whatever comes after it, gives the header back. Each field is read where its bytes were written,
--- and what `wire` shows of a number's bytes does the rest.
-use Prim.Native.Nat.{ℕ, _≤_, _<_}
-use mathlib.Core.Path.{_≡_, refl, ap}
+-- The bytes of a header: what the writers leave is one `put` of them, and reading them, whatever comes after, gives the header
+-- back. Each field is read where its bytes were written, and what `wire` shows of a number's bytes does the rest.
+use Prim.Native.Nat.{ℕ, _≤_, _<_, zero-le}
+use mathlib.Core.Path.{_≡_, refl, ap, _∙_}
 use mathlib.Core.Bool.{Bool, true, false}
 use mathlib.Core.List.{List, _++_}
 use native.Mathlib.Omega.{arith}
 use lib.ListN.{length, getD, length-append}
 use borrow.Author.Tests.{le-ltb}
-use Rattle.wire.specs.Wire.{be32, be64}
-use Rattle.wire.proofs.Laws.{be32At-be32, be64At-be64}
-use Rattle.ddp.specs.Header.{taggedBit, lastBit, versionOne, controlOf, startBytes, taggedBytes, untaggedBytes, taggedAt, untaggedAt, taggedRead, untaggedRead, headerRead}
+use Rattle.wire.specs.Wire.{put, be32, be64}
+use Rattle.wire.proofs.Laws.{put-put, be32At-be32, be64At-be64}
+use Rattle.ddp.specs.Header.{taggedBit, lastBit, versionOne, controlOf, startBytes, taggedBytes, untaggedBytes, taggedFields, untaggedFields, taggedRead, untaggedRead, headerRead}
 use Rattle.ddp.specs.declared.header.TaggedHeader.{TaggedHeader}
 use Rattle.ddp.specs.declared.header.UntaggedHeader.{UntaggedHeader}
 use Rattle.ddp.specs.declared.header.HeaderRead.the-variants.{Tagged, Untagged}
@@ -22,6 +22,24 @@ tagged-length h = refl
 pub untagged-length : (h : UntaggedHeader) → length (untaggedBytes h) ≡ 18
 unfolding untaggedBytes startBytes
 untagged-length h = refl
+
+-- what the writers' stores, each where the one before ends, make together: one `put` of the header
+pub tagged-put :
+    (l : List ℕ) (h : TaggedHeader) →
+    put (put l 0 (startBytes true (h .last) (h .control) (h .stag))) 6 (be64 (h .to)) ≡ put l 0 (taggedBytes h)
+unfolding taggedBytes startBytes
+tagged-put l h = put-put l 0 (startBytes true (h .last) (h .control) (h .stag)) (be64 (h .to)) zero-le
+
+pub untagged-put :
+    (l : List ℕ) (h : UntaggedHeader) →
+    put (put (put (put l 0 (startBytes false (h .last) (h .control) (h .stag))) 6 (be32 (h .qn))) 10 (be32 (h .msn))) 14 (be32 (h .mo))
+    ≡ put l 0 (untaggedBytes h)
+unfolding untaggedBytes startBytes
+untagged-put l h =
+    let s : List ℕ = startBytes false (h .last) (h .control) (h .stag) in
+    ap (λ (r : List ℕ). put (put r 10 (be32 (h .msn))) 14 (be32 (h .mo))) (put-put l 0 s (be32 (h .qn)) zero-le)
+    ∙ ap (λ (r : List ℕ). put r 14 (be32 (h .mo))) (put-put l 0 (s ++ be32 (h .qn)) (be32 (h .msn)) zero-le)
+    ∙ put-put l 0 (s ++ be32 (h .qn) ++ be32 (h .msn)) (be32 (h .mo)) zero-le
 
 -- the flags and the version of the first byte
 t-bit : (t l : Bool) → taggedBit (controlOf t l) ≡ t
@@ -53,8 +71,8 @@ module _ (h : TaggedHeader) (payload : List ℕ) where
   unfolding taggedBytes startBytes
   tagged-first = refl
 
-  tagged-fields : h .stag < 4294967296 → h .to < 18446744073709551616 → taggedAt (taggedBytes h ++ payload) ≡ h
-  unfolding taggedAt taggedBytes startBytes
+  tagged-fields : h .stag < 4294967296 → h .to < 18446744073709551616 → taggedFields (taggedBytes h ++ payload) ≡ h
+  unfolding taggedFields taggedBytes startBytes
   tagged-fields s t i = record {
     last = l-bit true (h .last) i;
     control = h .control;
@@ -78,8 +96,8 @@ module _ (h : UntaggedHeader) (payload : List ℕ) where
 
   untagged-fields :
       h .stag < 4294967296 → h .qn < 4294967296 → h .msn < 4294967296 → h .mo < 4294967296 →
-      untaggedAt (untaggedBytes h ++ payload) ≡ h
-  unfolding untaggedAt untaggedBytes startBytes
+      untaggedFields (untaggedBytes h ++ payload) ≡ h
+  unfolding untaggedFields untaggedBytes startBytes
   untagged-fields s q m o i = record {
     last = l-bit false (h .last) i;
     control = h .control;

@@ -12,7 +12,7 @@ use Rattle.wire.specs.Wire.{pick, both, be16At}
 use Rattle.mpa.specs.Fpdu.{maxUlpdu, totalOf, crcRight, fpduReadOf, fpduRead}
 use Rattle.mpa.specs.declared.FpduRead.the-variants.{Wait, Refused as FpduRefused, Taken}
 use Rattle.ddp.specs.Refusal.{segmentTooShort, taggedVersion, untaggedVersion}
-use Rattle.ddp.specs.Header.{taggedBit, versionOne, taggedAt, untaggedAt, taggedRead, untaggedRead, headerRead}
+use Rattle.ddp.specs.Header.{taggedBit, versionOne, taggedFields, untaggedFields, taggedRead, untaggedRead, headerRead}
 use Rattle.ddp.specs.declared.header.TaggedHeader.{TaggedHeader}
 use Rattle.ddp.specs.declared.header.UntaggedHeader.{UntaggedHeader}
 use Rattle.ddp.specs.declared.header.HeaderRead.the-variants.{Tagged, Untagged, Refused}
@@ -57,7 +57,7 @@ module _ (u : List ℕ) where
       go :
           (a b v d : Bool) → ltb (length u) 18 ≡ d →
           pick a (Refused segmentTooShort)
-          (pick b (pick v (Tagged (taggedAt u)) (Refused taggedVersion)) (pick d (Refused segmentTooShort) (pick v (Untagged (untaggedAt u)) (Refused untaggedVersion))))
+          (pick b (pick v (Tagged (taggedFields u)) (Refused taggedVersion)) (pick d (Refused segmentTooShort) (pick v (Untagged (untaggedFields u)) (Refused untaggedVersion))))
           ≡ Untagged h →
           18 ≤ length u
       go true b v d q e = let no : _≡_ {A = ℕ} 0 1 = cc in omega arith

@@ -24,12 +24,12 @@ abbrev pub versionOne : ℕ → Bool
 versionOne b = eqb (b % 4) 1
 
 -- "Tagged (T set), 14 bytes: control, RDMAP control, STag 4, tagged offset TO 8"
-unfoldable pub taggedAt : List ℕ → TaggedHeader
-taggedAt u = record { last = lastBit (getD u 0 0); control = getD u 1 0; stag = be32At u 2; to = be64At u 6 }
+unfoldable pub taggedFields : List ℕ → TaggedHeader
+taggedFields u = record { last = lastBit (getD u 0 0); control = getD u 1 0; stag = be32At u 2; to = be64At u 6 }
 
 -- "Untagged, 18 bytes: control, RDMAP control, invalidate STag 4, queue QN 4, message number MSN 4, message offset MO 4"
-unfoldable pub untaggedAt : List ℕ → UntaggedHeader
-untaggedAt u = record {
+unfoldable pub untaggedFields : List ℕ → UntaggedHeader
+untaggedFields u = record {
   last = lastBit (getD u 0 0);
   control = getD u 1 0;
   stag = be32At u 2;
@@ -40,12 +40,12 @@ untaggedAt u = record {
 
 -- 22 "ULPDU under 14, or untagged under 18"; 23 DDP version
 unfoldable pub taggedRead : List ℕ → HeaderRead
-taggedRead u = pick (versionOne (getD u 0 0)) (Tagged (taggedAt u)) (Refused taggedVersion)
+taggedRead u = pick (versionOne (getD u 0 0)) (Tagged (taggedFields u)) (Refused taggedVersion)
 
 unfoldable pub untaggedRead : List ℕ → HeaderRead
 untaggedRead u =
     pick (ltb (length u) 18) (Refused segmentTooShort)
-    (pick (versionOne (getD u 0 0)) (Untagged (untaggedAt u)) (Refused untaggedVersion))
+    (pick (versionOne (getD u 0 0)) (Untagged (untaggedFields u)) (Refused untaggedVersion))
 
 unfoldable pub headerRead : List ℕ → HeaderRead
 headerRead u =

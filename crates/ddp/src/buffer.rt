@@ -3,6 +3,8 @@ ghost use mathlib.Core.Path.{_≡_};
 ghost use Rattle.ddp.specs.Buffer.{posted, firstOf, poppedOf};
 use crate::part::Outcome;
 use crate::part::Part;
+use crate::refusal::BAD_PLACE;
+use crate::refusal::BUFFERS_FULL;
 
 // One buffer: where it starts in the store, and how many bytes it holds.
 pub struct Buffer {
@@ -48,12 +50,12 @@ impl Buffers {
                 };
             }
             return Posted {
-                outcome: Outcome::Refused(10),
+                outcome: Outcome::Refused(BUFFERS_FULL),
                 buffers: self,
             };
         }
         Posted {
-            outcome: Outcome::Refused(9),
+            outcome: Outcome::Refused(BAD_PLACE),
             buffers: self,
         }
     }

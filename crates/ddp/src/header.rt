@@ -15,6 +15,7 @@ ghost use Rattle.ddp.specs.Header.{
   written,
   writtenOut,
 };
+use crate::refusal::NO_ROOM;
 use crate::refusal::Refusal;
 use crate::refusal::SEGMENT_TOO_SHORT;
 use crate::refusal::TAGGED_VERSION;
@@ -138,7 +139,7 @@ pub fn write_tagged(h: TaggedHeader, out: &mut [u8]) -> Written
     ensures { λ r. ⌜ (r ≡ written 14 (length (now (out .entry)))) × (now (out .exit) ≡ writtenOut (taggedBytes h) (now (out .entry))) ⌝ }
 {
     if out.len() < 14 {
-        return Written::Refused(13);
+        return Written::Refused(NO_ROOM);
     }
     write_start(true, h.last, h.control, h.stag, out);
     wire::number::put_be64(out, 6, h.to);
@@ -150,7 +151,7 @@ pub fn write_untagged(h: UntaggedHeader, out: &mut [u8]) -> Written
     ensures { λ r. ⌜ (r ≡ written 18 (length (now (out .entry)))) × (now (out .exit) ≡ writtenOut (untaggedBytes h) (now (out .entry))) ⌝ }
 {
     if out.len() < 18 {
-        return Written::Refused(13);
+        return Written::Refused(NO_ROOM);
     }
     write_start(false, h.last, h.control, h.stag, out);
     wire::number::put_be32(out, 6, h.qn);

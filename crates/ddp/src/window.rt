@@ -5,6 +5,11 @@ ghost use Rattle.ddp.specs.Window.{inRange, windowFits, refusing, enteri
 use crate::part::Outcome;
 use crate::part::Part;
 use crate::part::inside;
+use crate::refusal::BAD_PLACE;
+use crate::refusal::KEY_AGAIN;
+use crate::refusal::OUT_OF_RANGE;
+use crate::refusal::WINDOW_LIVE;
+use crate::refusal::WINDOW_NOT_LIVE;
 
 // One window. A dead one keeps its last key (0: it never had one), and zeros beside.
 pub struct Window {
@@ -60,7 +65,7 @@ fn window_fits(part: Part, place: u64, base: u64, len: u64) -> bool
     ensures { λ r. ⌜ r ≡ windowFits part place base len ⌝ }
 {
     if inside(part, place, len) {
-        return len <= 0xFFFF_FFFF_FFFF_FFFF - base;
+        return len <= u64::MAX - base;
     }
     false
 }
@@ -105,10 +110,10 @@ pub fn register(
         let i = slot as usize;
         let old = windows[i];
         if old.live {
-            return refused(windows, 6);
+            return refused(windows, WINDOW_LIVE);
         }
         if key == old.key as u64 {
-            return refused(windows, 8);
+            return refused(windows, KEY_AGAIN);
         }
         if window_fits(part, place, base, len) {
             let new = Window {
@@ -121,9 +126,9 @@ pub fn register(
             };
             return entered(windows, i, new);
         }
-        return refused(windows, 9);
+        return refused(windows, BAD_PLACE);
     }
-    refused(windows, 1)
+    refused(windows, OUT_OF_RANGE)
 }
 
 // Drops the window of a slot: it is dead, and its key is kept.
@@ -131,7 +136,7 @@ pub fn drop_window(windows: [Window; 16], slot: u64) -> Registered
     ensures { λ r. ⌜ r ≡ dropped windows slot ⌝ }
 {
     if 15 < slot {
-        return refused(windows, 1);
+        return refused(windows, OUT_OF_RANGE);
     }
     let i = slot as usize;
     let old = windows[i];
@@ -146,7 +151,7 @@ pub fn drop_window(windows: [Window; 16], slot: u64) -> Registered
         };
         return entered(windows, i, dead);
     }
-    refused(windows, 7)
+    refused(windows, WINDOW_NOT_LIVE)
 }
 
 // How many windows are live.
@@ -219,7 +224,7 @@ fn wraps_around(to: u64, len: u64) -> bool
     if len == 0 {
         return false;
     }
-    0xFFFF_FFFF_FFFF_FFFF - to < len - 1
+    u64::MAX - to < len - 1
 }
 
 // Where the len bytes from the tagged offset to lie.

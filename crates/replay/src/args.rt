@@ -9,7 +9,7 @@ ghost use Prim.Native.Nat.{_≤_, min};
 ghost use lib.ListN.{length};
 ghost use Rattle.io.specs.Counts.{Counts};
 ghost use Rattle.script.specs.Hex.{decodedOf};
-ghost use Rattle.replay.specs.Args.{hexOf};
+ghost use Rattle.replay.specs.Args.{flagOf, hexOf};
 
 // One more word than any command has.
 const MAX_WORDS: usize = 11;
@@ -78,12 +78,14 @@ pub fn word(line: &[u8], words: Words, i: usize) -> &[u8] {
     &line[..0]
 }
 
-// Which of two words a word is.
-pub fn flag_of(w: &[u8], no: &[u8], yes: &[u8]) -> Flag {
-    if same(w, yes) {
+// Which of two words a word is: `on` stands for true.
+pub fn flag_of(w: &[u8], off: &[u8], on: &[u8]) -> Flag
+    ensures { λ r. ⌜ r ≡ flagOf (now (w .entry)) (now (off .entry)) (now (on .entry)) ⌝ }
+{
+    if same(w, on) {
         return Flag::Value(true);
     }
-    if same(w, no) {
+    if same(w, off) {
         return Flag::Value(false);
     }
     Flag::Bad

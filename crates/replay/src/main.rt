@@ -9,7 +9,8 @@ mod frames;
 mod input;
 mod line;
 
-// A line of 65,536 bytes has hex for fewer than 32,768.
+// Lends the buffers. `bytes` holds what the hex of a line stands for, less than half of the line; the
+// longest answer is that of a frame of 2,056 bytes, with two digits for each.
 fn main() {
     let mut chunk = io::large_buffer();
     let mut line = io::large_buffer();

@@ -1,5 +1,5 @@
 -- `read_tagged` meets its contract: the test on the version picks the case, and each field is what its reader ensures.
-use Rattle.ddp.specs.Header.{taggedRead, taggedAt}
+use Rattle.ddp.specs.Header.{taggedRead, taggedFields}
 use borrow.Author.Needs.{needs}
 use borrow.Author.Tests.{eq-eqb, ne-eqb}
 use Rattle.ddp.proofs.header.read_tagged.Statement.{statement}
@@ -21,8 +21,14 @@ get-be64-requires : tie.Need-get-be64-requires
 get-be64-requires c κs = search needs
 
 returns : tie.Need-returns
-unfolding taggedRead taggedAt
-returns c = simp (eq-eqb _ _ (c .before .before .before .before .if1 .taken), c .before .before .before .is-last .ensures, c .before .get-be32 .ensures, c .get-be64 .ensures)
+unfolding taggedRead taggedFields
+returns c =
+    simp (
+      eq-eqb _ _ (c .before .before .before .before .if1 .taken),
+      c .before .before .before .is-last .ensures,
+      c .before .get-be32 .ensures,
+      c .get-be64 .ensures,
+    )
 
 returns-2 : tie.Need-returns-2
 unfolding taggedRead

@@ -1,5 +1,5 @@
 -- `read_untagged` meets its contract: the tests pick the case, and each field is what its reader ensures.
-use Rattle.ddp.specs.Header.{untaggedRead, untaggedAt}
+use Rattle.ddp.specs.Header.{untaggedRead, untaggedFields}
 use borrow.Author.Needs.{needs}
 use borrow.Author.Tests.{lt-ltb, le-ltb, eq-eqb, ne-eqb}
 use Rattle.ddp.proofs.header.read_untagged.Statement.{statement}
@@ -31,8 +31,17 @@ get-be32-requires-4 : tie.Need-get-be32-requires-4
 get-be32-requires-4 c κs = search needs
 
 returns-2 : tie.Need-returns-2
-unfolding untaggedRead untaggedAt
-returns-2 c = simp (le-ltb _ _ (c .before .before .before .before .before .before .before .before .if1 .left), eq-eqb _ _ (c .before .before .before .before .before .before .if2 .taken), c .before .before .before .before .before .is-last .ensures, c .before .before .before .get-be32 .ensures, c .before .before .get-be322 .ensures, c .before .get-be323 .ensures, c .get-be324 .ensures)
+unfolding untaggedRead untaggedFields
+returns-2 c =
+    simp (
+      le-ltb _ _ (c .before .before .before .before .before .before .before .before .if1 .left),
+      eq-eqb _ _ (c .before .before .before .before .before .before .if2 .taken),
+      c .before .before .before .before .before .is-last .ensures,
+      c .before .before .before .get-be32 .ensures,
+      c .before .before .get-be322 .ensures,
+      c .before .get-be323 .ensures,
+      c .get-be324 .ensures,
+    )
 
 returns-3 : tie.Need-returns-3
 unfolding untaggedRead

@@ -1,12 +1,11 @@
 -- `write_tagged` meets its contract: the start and the tagged offset written after it are one `put`.
+use Prim.Native.Nat.{ℕ, _≤_}
 use mathlib.Core.Path.{ap, _∙_}
-use mathlib.Core.Bool.{true}
-use Prim.Native.Nat.{ℕ}
 use mathlib.Core.List.{List}
 use Rattle.wire.specs.Wire.{put, be64}
-use Rattle.wire.proofs.Laws.{put-put}
-use Rattle.ddp.specs.Header.{startBytes, taggedBytes, written, writtenOut}
-use Rattle.ddp.proofs.Round.{tagged-length}
+use lib.ListN.{length}
+use Rattle.ddp.specs.Header.{taggedBytes, written, writtenOut}
+use Rattle.ddp.proofs.Round.{tagged-length, tagged-put}
 use borrow.Author.Needs.{needs}
 use native.Mathlib.Omega.{arith}
 use borrow.Author.Tests.{lt-ltb, le-ltb}
@@ -27,16 +26,16 @@ same-length : tie.Need-same-length
 same-length c = search needs
 
 returns-2 : tie.Need-returns-2
-unfolding written writtenOut startBytes taggedBytes
+unfolding written writtenOut
 returns-2 c =
     let a = c .before .before .before .before .before .before .before .before .before .before .args in
-    let h = a .h in
-    let e =
-    c .before .before .put-be64 .ensures
-    ∙ ap (λ (l : List ℕ). put l 6 (be64 (h .to))) (c .before .before .before .before .before .before .write-start .ensures)
-    ∙ put-put (a .out .now) 0 (startBytes true (h .last) (h .control) (h .stag)) (be64 (h .to)) (omega arith)
-    in
-    (simp (le-ltb _ _ (c .before .before .before .before .before .before .before .before .if1 .left)), simp (le-ltb _ _ (c .before .before .before .before .before .before .before .before .if1 .left)) e)
+    let room : length (taggedBytes (a .h)) ≤ length (a .out .now) = omega (arith, tagged-length (a .h)) in (
+      simp (le-ltb _ _ (c .before .before .before .before .before .before .before .before .if1 .left)),
+      simp (le-ltb _ _ room)
+          (c .before .before .put-be64 .ensures
+          ∙ ap (λ (l : List ℕ). put l 6 (be64 (a .h .to))) (c .before .before .before .before .before .before .write-start .ensures)
+          ∙ tagged-put (a .out .now) (a .h)),
+    )
 
 pub write-tagged-spec : {M : Type 1} → statement M
 write-tagged-spec =

@@ -1,12 +1,11 @@
 -- `write_untagged` meets its contract: the start and the three numbers written after it are one `put`.
+use Prim.Native.Nat.{ℕ, _≤_}
 use mathlib.Core.Path.{ap, _∙_}
-use mathlib.Core.Bool.{false}
-use Prim.Native.Nat.{ℕ}
-use mathlib.Core.List.{List, _++_}
+use mathlib.Core.List.{List}
 use Rattle.wire.specs.Wire.{put, be32}
-use Rattle.wire.proofs.Laws.{put-put}
-use Rattle.ddp.specs.Header.{startBytes, untaggedBytes, written, writtenOut}
-use Rattle.ddp.proofs.Round.{untagged-length}
+use lib.ListN.{length}
+use Rattle.ddp.specs.Header.{untaggedBytes, written, writtenOut}
+use Rattle.ddp.proofs.Round.{untagged-length, untagged-put}
 use borrow.Author.Needs.{needs}
 use native.Mathlib.Omega.{arith}
 use borrow.Author.Tests.{lt-ltb, le-ltb}
@@ -33,16 +32,20 @@ same-length : tie.Need-same-length
 same-length c = search needs
 
 returns-2 : tie.Need-returns-2
-unfolding written writtenOut startBytes untaggedBytes
+unfolding written writtenOut
 returns-2 c =
     let a = c .before .before .before .before .before .before .before .before .before .before .before .before .before .before .before .before .before .before .args in
-    let h = a .h in
-    let l = a .out .now in
-    let s = startBytes false (h .last) (h .control) (h .stag) in
-    let e₁ = c .before .before .before .before .before .before .before .before .before .before .put-be32 .ensures ∙ ap (λ (l : List ℕ). put l 6 (be32 (h .qn))) (c .before .before .before .before .before .before .before .before .before .before .before .before .before .before .write-start .ensures) ∙ put-put l 0 s (be32 (h .qn)) (omega arith) in
-    let e₂ = c .before .before .before .before .before .before .put-be322 .ensures ∙ ap (λ (l : List ℕ). put l 10 (be32 (h .msn))) e₁ ∙ put-put l 0 (s ++ be32 (h .qn)) (be32 (h .msn)) (omega arith) in
-    let e₃ = c .before .before .put-be323 .ensures ∙ ap (λ (l : List ℕ). put l 14 (be32 (h .mo))) e₂ ∙ put-put l 0 (s ++ be32 (h .qn) ++ be32 (h .msn)) (be32 (h .mo)) (omega arith) in
-    (simp (le-ltb _ _ (c .before .before .before .before .before .before .before .before .before .before .before .before .before .before .before .before .if1 .left)), simp (le-ltb _ _ (c .before .before .before .before .before .before .before .before .before .before .before .before .before .before .before .before .if1 .left)) e₃)
+    let room : length (untaggedBytes (a .h)) ≤ length (a .out .now) = omega (arith, untagged-length (a .h)) in (
+      simp (le-ltb _ _ (c .before .before .before .before .before .before .before .before .before .before .before .before .before .before .before .before .if1 .left)),
+      simp (le-ltb _ _ room)
+          (c .before .before .put-be323 .ensures
+          ∙ ap (λ (l : List ℕ). put l 14 (be32 (a .h .mo)))
+          (c .before .before .before .before .before .before .put-be322 .ensures
+          ∙ ap (λ (l : List ℕ). put l 10 (be32 (a .h .msn)))
+          (c .before .before .before .before .before .before .before .before .before .before .put-be32 .ensures
+          ∙ ap (λ (l : List ℕ). put l 6 (be32 (a .h .qn))) (c .before .before .before .before .before .before .before .before .before .before .before .before .before .before .write-start .ensures)))
+          ∙ untagged-put (a .out .now) (a .h)),
+    )
 
 pub write-untagged-spec : {M : Type 1} → statement M
 write-untagged-spec =

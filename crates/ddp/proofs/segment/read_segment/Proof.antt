@@ -28,7 +28,9 @@ segment-of-requires c κs =
 
 returns : tie.Need-returns
 unfolding segmentRead
-returns c = ap (segmentFrom (c .before .before .before .before .before .args .bytes .now)) (sym (c .before .n .given .1) ∙ c .before .before .before .read-fpdu .ensures)
+returns c =
+    ap (segmentFrom (c .before .before .before .before .before .args .bytes .now)) (sym (c .before .n .given .1)
+    ∙ c .before .before .before .read-fpdu .ensures)
 
 returns-2 : tie.Need-returns-2
 unfolding segmentRead

@@ -42,7 +42,9 @@ add-t15 c = search needs
 sub-t16 : tie.Need-sub-t16
 sub-t16 c =
     let a = c .before .before .before .before .before .before .args in
-    let long = tagged-from (part (a .bytes .now) (a .start) (a .len)) (c .before .header .given .0 .0) (sym (sym (c .before .header .given .1) ∙ c .before .before .before .read-header .ensures ∙ read (a .bytes .now) (a .start) (a .len))) in
+    let long = tagged-from (part (a .bytes .now) (a .start) (a .len)) (c .before .header .given .0 .0) (sym (sym (c .before .header .given .1)
+    ∙ c .before .before .before .read-header .ensures
+    ∙ read (a .bytes .now) (a .start) (a .len))) in
     omega (arith, long, length-part (a .bytes .now) (a .start) (a .len) (c .before .before .before .before .before .before .pre))
 
 enum-known-header-2 : tie.Need-enum-known-header-2
@@ -54,7 +56,9 @@ add-t17 c = search needs
 sub-t18 : tie.Need-sub-t18
 sub-t18 c =
     let a = c .before .before .before .before .before .before .args in
-    let long = untagged-from (part (a .bytes .now) (a .start) (a .len)) (c .before .header2 .given .0 .0) (sym (sym (c .before .header2 .given .1) ∙ c .before .before .before .read-header .ensures ∙ read (a .bytes .now) (a .start) (a .len))) in
+    let long = untagged-from (part (a .bytes .now) (a .start) (a .len)) (c .before .header2 .given .0 .0) (sym (sym (c .before .header2 .given .1)
+    ∙ c .before .before .before .read-header .ensures
+    ∙ read (a .bytes .now) (a .start) (a .len))) in
     omega (arith, long, length-part (a .bytes .now) (a .start) (a .len) (c .before .before .before .before .before .before .pre))
 
 enum-known-refusal : tie.Need-enum-known-refusal
@@ -63,17 +67,23 @@ enum-known-refusal c = search needs
 returns : tie.Need-returns
 returns c =
     let a = c .before .before .before .before .before .before .args in
-    ap (segmentOf (a .total) (a .start) (a .len)) (sym (c .before .header .given .1) ∙ c .before .before .before .read-header .ensures ∙ read (a .bytes .now) (a .start) (a .len))
+    ap (segmentOf (a .total) (a .start) (a .len)) (sym (c .before .header .given .1)
+    ∙ c .before .before .before .read-header .ensures
+    ∙ read (a .bytes .now) (a .start) (a .len))
 
 returns-2 : tie.Need-returns-2
 returns-2 c =
     let a = c .before .before .before .before .before .before .args in
-    ap (segmentOf (a .total) (a .start) (a .len)) (sym (c .before .header2 .given .1) ∙ c .before .before .before .read-header .ensures ∙ read (a .bytes .now) (a .start) (a .len))
+    ap (segmentOf (a .total) (a .start) (a .len)) (sym (c .before .header2 .given .1)
+    ∙ c .before .before .before .read-header .ensures
+    ∙ read (a .bytes .now) (a .start) (a .len))
 
 returns-3 : tie.Need-returns-3
 returns-3 c =
     let a = c .before .before .before .before .before .before .args in
-    ap (segmentOf (a .total) (a .start) (a .len)) (sym (c .before .refusal .given .1) ∙ c .before .before .before .read-header .ensures ∙ read (a .bytes .now) (a .start) (a .len))
+    ap (segmentOf (a .total) (a .start) (a .len)) (sym (c .before .refusal .given .1)
+    ∙ c .before .before .before .read-header .ensures
+    ∙ read (a .bytes .now) (a .start) (a .len))
 
 pub segment-of-spec : {M : Type 1} → statement M
 segment-of-spec =

@@ -39,7 +39,8 @@ unfolding taggedOf
 returns-2 c =
     let a = c .before .before .before .before .before .before .before .args in
     simp (ne-eqb _ _ (c .before .before .before .before .before .before .if1 .left))
-    (c .judge-span .ensures ∙ ap (λ (f : Found). taggedAt (a .t1) f (a .to) (a .len)) (sym (c .before .before .before .slot .given .1) ∙ c .before .before .before .before .before .find .ensures))
+    (c .judge-span .ensures
+    ∙ ap (λ (f : Found). taggedAt (a .t1) f (a .to) (a .len)) (sym (c .before .before .before .slot .given .1) ∙ c .before .before .before .before .before .find .ensures))
 
 returns-3 : tie.Need-returns-3
 unfolding taggedOf

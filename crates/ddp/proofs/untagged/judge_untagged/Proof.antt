@@ -20,7 +20,12 @@ judge-offset-requires c κs = search needs
 
 returns-2 : tie.Need-returns-2
 unfolding untaggedOf
-returns-2 c = simp (le-ltb _ _ (c .before .before .before .before .before .if1 .left), c .before .before .if2 .taken, c .before .if3 .taken) (c .judge-offset .ensures)
+returns-2 c =
+    simp (
+      le-ltb _ _ (c .before .before .before .before .before .if1 .left),
+      c .before .before .if2 .taken,
+      c .before .if3 .taken,
+    ) (c .judge-offset .ensures)
 
 returns-3 : tie.Need-returns-3
 unfolding untaggedOf

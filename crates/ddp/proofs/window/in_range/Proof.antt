@@ -16,7 +16,12 @@ returns-2 c = let h : c .before .before .args .key < 1 = omega arith in simp (le
 
 returns-3 : tie.Need-returns-3
 unfolding inRange
-returns-3 c = let h : 1 ≤ c .before .before .before .args .key = omega arith in simp (le-leb _ _ (c .before .before .if1 .left), le-leb _ _ h, lt-leb _ _ (c .if3 .taken))
+returns-3 c =
+    let h : 1 ≤ c .before .before .before .args .key = omega arith in simp (
+      le-leb _ _ (c .before .before .if1 .left),
+      le-leb _ _ h,
+      lt-leb _ _ (c .if3 .taken),
+    )
 
 returns-4 : tie.Need-returns-4
 unfolding inRange

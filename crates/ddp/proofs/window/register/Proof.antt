@@ -36,17 +36,32 @@ refused-requires-2 c κs = search needs
 returns-2 : tie.Need-returns-2
 unfolding registered
 returns-2 c =
-    simp (sym (c .before .before .before .before .before .before .in-range .ensures) ∙ c .before .before .before .before .before .if1 .taken, c .before .before .before .if2 .left, eq-eqb _ _ (c .before .if3 .taken))
+    simp (
+      sym (c .before .before .before .before .before .before .in-range .ensures)
+          ∙ c .before .before .before .before .before .if1 .taken,
+      c .before .before .before .if2 .left,
+      eq-eqb _ _ (c .before .if3 .taken),
+    )
     (c .refused2 .ensures)
 
 window-fits-requires : tie.Need-window-fits-requires
 window-fits-requires c κs = search needs
 
 cast-t23 : tie.Need-cast-t23
-cast-t23 c = omega (arith, key-bound _ _ _ (sym (c .before .before .before .before .before .before .before .in-range .ensures) ∙ c .before .before .before .before .before .before .if1 .taken))
+cast-t23 c =
+    omega (
+      arith,
+      key-bound _ _ _ (sym (c .before .before .before .before .before .before .before .in-range .ensures)
+          ∙ c .before .before .before .before .before .before .if1 .taken),
+    )
 
 cast-t24 : tie.Need-cast-t24
-cast-t24 c = omega (arith, rights-bound _ _ _ (sym (c .before .before .before .before .before .before .before .in-range .ensures) ∙ c .before .before .before .before .before .before .if1 .taken))
+cast-t24 c =
+    omega (
+      arith,
+      rights-bound _ _ _ (sym (c .before .before .before .before .before .before .before .in-range .ensures)
+          ∙ c .before .before .before .before .before .before .if1 .taken),
+    )
 
 cast-t25 : tie.Need-cast-t25
 cast-t25 c = omega (arith, window-bound _ _ _ _ (sym (c .before .window-fits .ensures) ∙ c .if4 .taken))
@@ -55,12 +70,24 @@ cast-t26 : tie.Need-cast-t26
 cast-t26 c = omega (arith, window-bound _ _ _ _ (sym (c .before .window-fits .ensures) ∙ c .if4 .taken))
 
 entered-requires : tie.Need-entered-requires
-entered-requires c κs = omega (arith, slot-bound _ _ _ (sym (c .before .before .before .before .before .before .before .in-range .ensures) ∙ c .before .before .before .before .before .before .if1 .taken))
+entered-requires c κs =
+    omega (
+      arith,
+      slot-bound _ _ _ (sym (c .before .before .before .before .before .before .before .in-range .ensures)
+          ∙ c .before .before .before .before .before .before .if1 .taken),
+    )
 
 returns-3 : tie.Need-returns-3
 unfolding registered
 returns-3 c =
-    simp (sym (c .before .before .before .before .before .before .before .before .in-range .ensures) ∙ c .before .before .before .before .before .before .before .if1 .taken, c .before .before .before .before .before .if2 .left, ne-eqb _ _ (c .before .before .before .if3 .left), sym (c .before .before .window-fits .ensures) ∙ c .before .if4 .taken)
+    simp (
+      sym (c .before .before .before .before .before .before .before .before .in-range .ensures)
+          ∙ c .before .before .before .before .before .before .before .if1 .taken,
+      c .before .before .before .before .before .if2 .left,
+      ne-eqb _ _ (c .before .before .before .if3 .left),
+      sym (c .before .before .window-fits .ensures)
+          ∙ c .before .if4 .taken,
+    )
     (c .entered .ensures)
 
 refused-requires-3 : tie.Need-refused-requires-3
@@ -69,7 +96,14 @@ refused-requires-3 c κs = search needs
 returns-4 : tie.Need-returns-4
 unfolding registered
 returns-4 c =
-    simp (sym (c .before .before .before .before .before .before .before .before .in-range .ensures) ∙ c .before .before .before .before .before .before .before .if1 .taken, c .before .before .before .before .before .if2 .left, ne-eqb _ _ (c .before .before .before .if3 .left), sym (c .before .before .window-fits .ensures) ∙ c .before .if4 .left)
+    simp (
+      sym (c .before .before .before .before .before .before .before .before .in-range .ensures)
+          ∙ c .before .before .before .before .before .before .before .if1 .taken,
+      c .before .before .before .before .before .if2 .left,
+      ne-eqb _ _ (c .before .before .before .if3 .left),
+      sym (c .before .before .window-fits .ensures)
+          ∙ c .before .if4 .left,
+    )
     (c .refused3 .ensures)
 
 refused-requires-4 : tie.Need-refused-requires-4

@@ -28,14 +28,24 @@ unfolding spanned
 returns-3 c =
     let a = c .before .before .before .before .before .args in
     let h : a .w .base + a .w .len < a .to + a .len = omega arith in
-    simp (sym (c .before .before .before .before .wraps-around .ensures) ∙ c .before .before .before .if1 .left, le-leb _ _ (c .before .before .if2 .left), lt-leb _ _ h)
+    simp (
+      sym (c .before .before .before .before .wraps-around .ensures)
+          ∙ c .before .before .before .if1 .left,
+      le-leb _ _ (c .before .before .if2 .left),
+      lt-leb _ _ h,
+    )
 
 returns-4 : tie.Need-returns-4
 unfolding spanned
 returns-4 c =
     let a = c .before .before .before .before .before .before .args in
     let h : a .w .base + a .w .len < a .to + a .len = omega arith in
-    simp (sym (c .before .before .before .before .before .wraps-around .ensures) ∙ c .before .before .before .before .if1 .left, le-leb _ _ (c .before .before .before .if2 .left), lt-leb _ _ h)
+    simp (
+      sym (c .before .before .before .before .before .wraps-around .ensures)
+          ∙ c .before .before .before .before .if1 .left,
+      le-leb _ _ (c .before .before .before .if2 .left),
+      lt-leb _ _ h,
+    )
 
 cast-t9 : tie.Need-cast-t9
 cast-t9 c = search needs
@@ -48,7 +58,12 @@ unfolding spanned
 returns-5 c =
     let a = c .before .before .before .before .before .before .before .args in
     let h : a .to + a .len ≤ a .w .base + a .w .len = omega arith in
-    simp (sym (c .before .before .before .before .before .before .wraps-around .ensures) ∙ c .before .before .before .before .before .if1 .left, le-leb _ _ (c .before .before .before .before .if2 .left), le-leb _ _ h)
+    simp (
+      sym (c .before .before .before .before .before .before .wraps-around .ensures)
+          ∙ c .before .before .before .before .before .if1 .left,
+      le-leb _ _ (c .before .before .before .before .if2 .left),
+      le-leb _ _ h,
+    )
 
 pub span-of-spec : {M : Type 1} → statement M
 span-of-spec =
