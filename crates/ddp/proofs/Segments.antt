@@ -1,42 +1,19 @@
--- What a frame or a header that was read says of the lengths: by cases on the tests of the definition, of which only one way
+-- What a header that was read says of the length: by cases on the tests of the definition, of which only one way
 -- gives that answer.
-use Prim.Native.Nat.{ℕ, _+_, _≤_}
+use Prim.Native.Nat.{ℕ, _≤_}
 use mathlib.Core.Path.{_≡_, refl}
-use mathlib.Core.Bool.{Bool, true, false, not}
+use mathlib.Core.Bool.{Bool, true, false}
 use mathlib.Core.List.{List}
 use native.Mathlib.Omega.{arith}
 use lib.ListN.{length, getD}
 use lib.Dec.{ltb}
 use borrow.Author.Tests.{ltb-false}
-use Rattle.wire.specs.Wire.{pick, both, be16At}
-use Rattle.mpa.specs.Fpdu.{maxUlpdu, totalOf, crcRight, fpduReadOf, fpduRead}
-use Rattle.mpa.specs.declared.FpduRead.the-variants.{Wait, Refused as FpduRefused, Taken}
+use Rattle.wire.specs.Wire.{pick}
 use Rattle.ddp.specs.Refusal.{segmentTooShort, taggedVersion, untaggedVersion}
 use Rattle.ddp.specs.Header.{taggedBit, versionOne, taggedFields, untaggedFields, taggedRead, untaggedRead, headerRead}
 use Rattle.ddp.specs.declared.header.TaggedHeader.{TaggedHeader}
 use Rattle.ddp.specs.declared.header.UntaggedHeader.{UntaggedHeader}
 use Rattle.ddp.specs.declared.header.HeaderRead.the-variants.{Tagged, Untagged, Refused}
-
--- the ULPDU of a frame lies in the bytes
-pub ulpdu-inside : (on : Bool) (bytes : List ℕ) (total start len : ℕ) → fpduRead on bytes ≡ Taken total start len → start + len ≤ length bytes
-unfolding fpduRead fpduReadOf
-ulpdu-inside on bytes total start len e =
-    go (ltb (length bytes) 2) (ltb maxUlpdu (be16At bytes 0)) (ltb (length bytes) (totalOf (be16At bytes 0)))
-    (both on (not (crcRight bytes (be16At bytes 0)))) refl e
-  where
-    go :
-        (a b c d : Bool) → ltb (length bytes) (totalOf (be16At bytes 0)) ≡ c →
-        pick a (Wait 2) (pick b (FpduRefused 20) (pick c (Wait (totalOf (be16At bytes 0))) (pick d (FpduRefused 21) (Taken (totalOf (be16At bytes 0)) 2 (be16At bytes 0)))))
-        ≡ Taken total start len →
-        start + len ≤ length bytes
-    go true b c d q e = let no : _≡_ {A = ℕ} 0 1 = cc in omega arith
-    go false true c d q e = let no : _≡_ {A = ℕ} 0 1 = cc in omega arith
-    go false false true d q e = let no : _≡_ {A = ℕ} 0 1 = cc in omega arith
-    go false false false true q e = let no : _≡_ {A = ℕ} 0 1 = cc in omega arith
-    go false false false false q e =
-        let s : _≡_ {A = ℕ} 2 start = cc in
-        let n : be16At bytes 0 ≡ len = cc in
-        omega (arith, ltb-false (length bytes) (totalOf (be16At bytes 0)) q)
 
 -- a tagged header has 14 bytes, and an untagged one 18
 module _ (u : List ℕ) where

@@ -68,19 +68,30 @@ module _ (u rest : List ℕ) where
       ap (take (length u)) (append-assoc (u ++ replicate (padOf (length u)) 0) _ rest ∙ append-assoc u (replicate (padOf (length u)) 0) _)
       ∙ take-at u _ (length u) refl
 
+-- what a length that the writer answers tells
+pub record Accepted (n room k : ℕ) : Type 0 where
+  pub short : n ≤ maxUlpdu
+  pub total : totalOf n ≡ k
+  pub within : k ≤ room
+
+pub accepted : (n room k : ℕ) → fpduWritten n room ≡ Length k → Accepted n room k
+unfolding fpduWritten
+accepted n room k = over (ltb maxUlpdu n) refl
+  where
+    held : (b : Bool) → ltb room (totalOf n) ≡ b → pick b (NotWritten 13) (Length (totalOf n)) ≡ Length k → n ≤ maxUlpdu → Accepted n room k
+    held true h e l = absurd (let z : _≡_ {A = ℕ} 0 1 = cc in omega arith)
+    held false h e l =
+        let t : totalOf n ≡ k = cc in
+        record { short = l; total = t; within = subst (λ (x : ℕ). x ≤ room) t (ltb-false room (totalOf n) h) }
+
+    over : (b : Bool) → ltb maxUlpdu n ≡ b → pick b (NotWritten 12) (pick (ltb room (totalOf n)) (NotWritten 13) (Length (totalOf n))) ≡ Length k → Accepted n room k
+    over true h e = absurd (let z : _≡_ {A = ℕ} 0 1 = cc in omega arith)
+    over false h e = held (ltb room (totalOf n)) refl e (ltb-false maxUlpdu n h)
+
 -- of the writer's own contract: where it answers a length, the slice that it leaves is read back as what was given
 module _ (u out : List ℕ) (n : ℕ) (q : fpduWritten (length u) (length out) ≡ Length n) where
-  accepted : (length u ≤ maxUlpdu) × (totalOf (length u) ≡ n)
-  unfolding fpduWritten
-  accepted = over (ltb maxUlpdu (length u)) refl q
-    where
-      room : (b : Bool) → pick b (NotWritten 13) (Length (totalOf (length u))) ≡ Length n → totalOf (length u) ≡ n
-      room true e = absurd (let z : _≡_ {A = ℕ} 0 1 = cc in omega arith)
-      room false e = cc
-
-      over : (b : Bool) → ltb maxUlpdu (length u) ≡ b → pick b (NotWritten 12) (pick (ltb (length out) (totalOf (length u))) (NotWritten 13) (Length (totalOf (length u)))) ≡ Length n → (length u ≤ maxUlpdu) × (totalOf (length u) ≡ n)
-      over true h e = absurd (let z : _≡_ {A = ℕ} 0 1 = cc in omega arith)
-      over false h e = (ltb-false maxUlpdu (length u) h, room (ltb (length out) (totalOf (length u))) e)
+  a : Accepted (length u) (length out) n
+  a = accepted (length u) (length out) n q
 
   left : fpduOut u out ≡ fpduOf u ++ drop (length (fpduOf u)) out
   unfolding fpduOut
@@ -88,6 +99,6 @@ module _ (u out : List ℕ) (n : ℕ) (q : fpduWritten (length u) (length out) �
 
   pub written-back : (on : Bool) → (fpduRead on (fpduOut u out) ≡ Taken n 2 (length u)) × (part (fpduOut u out) 2 (length u) ≡ u)
   written-back on = (
-    ap (fpduRead on) left ∙ read-back u (drop (length (fpduOf u)) out) on (accepted .0) ∙ ap (λ (t : ℕ). Taken t 2 (length u)) (accepted .1),
+    ap (fpduRead on) left ∙ read-back u (drop (length (fpduOf u)) out) on (a .short) ∙ ap (λ (t : ℕ). Taken t 2 (length u)) (a .total),
     ap (λ (l : List ℕ). part l 2 (length u)) left ∙ given-back u (drop (length (fpduOf u)) out),
   )

@@ -63,32 +63,39 @@ module _ (reply c r : Bool) (priv rest : List ℕ) (h : length priv ≤ maxPriva
   unfolding startupOf
   private-back = take-at priv rest (length priv) refl
 
+-- what a length that the writer answers tells
+pub record Admitted (reply r : Bool) (n room k : ℕ) : Type 0 where
+  pub told : both reply r ≡ r
+  pub short : n ≤ maxPrivate
+  pub total : 20 + n ≡ k
+  pub within : k ≤ room
+
+pub admitted : (reply r : Bool) (n room k : ℕ) → startupWritten reply r n room ≡ Length k → Admitted reply r n room k
+unfolding startupWritten
+admitted reply r n room k = asked (both (not reply) r) refl
+  where
+    told : (p x : Bool) → both (not p) x ≡ false → both p x ≡ x
+    told true x e = refl
+    told false x e = sym e
+
+    held : (b : Bool) → ltb room (20 + n) ≡ b → pick b (NotWritten 13) (Length (20 + n)) ≡ Length k → both (not reply) r ≡ false → n ≤ maxPrivate → Admitted reply r n room k
+    held true h e d l = absurd (let z : _≡_ {A = ℕ} 0 1 = cc in omega arith)
+    held false h e d l =
+        let t : 20 + n ≡ k = cc in
+        record { told = told reply r d; short = l; total = t; within = subst (λ (x : ℕ). x ≤ room) t (ltb-false room (20 + n) h) }
+
+    over : (b : Bool) → ltb maxPrivate n ≡ b → pick b (NotWritten 12) (pick (ltb room (20 + n)) (NotWritten 13) (Length (20 + n))) ≡ Length k → both (not reply) r ≡ false → Admitted reply r n room k
+    over true h e d = absurd (let z : _≡_ {A = ℕ} 0 1 = cc in omega arith)
+    over false h e d = held (ltb room (20 + n)) refl e d (ltb-false maxPrivate n h)
+
+    asked : (b : Bool) → both (not reply) r ≡ b → pick b (NotWritten 1) (pick (ltb maxPrivate n) (NotWritten 12) (pick (ltb room (20 + n)) (NotWritten 13) (Length (20 + n)))) ≡ Length k → Admitted reply r n room k
+    asked true d e = absurd (let z : _≡_ {A = ℕ} 0 1 = cc in omega arith)
+    asked false d e = over (ltb maxPrivate n) refl e d
+
 -- of the writer's own contract: where it answers a length, the slice that it leaves is read back as what was given
 module _ (reply c r : Bool) (priv out : List ℕ) (n : ℕ) (q : startupWritten reply r (length priv) (length out) ≡ Length n) where
-  record Accepted : Type 0 where
-    told : both reply r ≡ r
-    short : length priv ≤ maxPrivate
-    total : 20 + length priv ≡ n
-
-  accepted : Accepted
-  unfolding startupWritten
-  accepted = asked (both (not reply) r) refl q
-    where
-      told : (p x : Bool) → both (not p) x ≡ false → both p x ≡ x
-      told true x e = refl
-      told false x e = sym e
-
-      room : (b : Bool) → pick b (NotWritten 13) (Length (20 + length priv)) ≡ Length n → 20 + length priv ≡ n
-      room true e = absurd (let z : _≡_ {A = ℕ} 0 1 = cc in omega arith)
-      room false e = cc
-
-      over : (b : Bool) → ltb maxPrivate (length priv) ≡ b → pick b (NotWritten 12) (pick (ltb (length out) (20 + length priv)) (NotWritten 13) (Length (20 + length priv))) ≡ Length n → both (not reply) r ≡ false → Accepted
-      over true h e k = absurd (let z : _≡_ {A = ℕ} 0 1 = cc in omega arith)
-      over false h e k = record { told = told reply r k; short = ltb-false maxPrivate (length priv) h; total = room (ltb (length out) (20 + length priv)) e }
-
-      asked : (b : Bool) → both (not reply) r ≡ b → pick b (NotWritten 1) (pick (ltb maxPrivate (length priv)) (NotWritten 12) (pick (ltb (length out) (20 + length priv)) (NotWritten 13) (Length (20 + length priv)))) ≡ Length n → Accepted
-      asked true k e = absurd (let z : _≡_ {A = ℕ} 0 1 = cc in omega arith)
-      asked false k e = over (ltb maxPrivate (length priv)) refl e k
+  a : Admitted reply r (length priv) (length out) n
+  a = admitted reply r (length priv) (length out) n q
 
   left : startupOut reply c r priv out ≡ startupOf reply c r priv ++ drop (length (startupOf reply c r priv)) out
   unfolding startupOut
@@ -97,8 +104,8 @@ module _ (reply c r : Bool) (priv out : List ℕ) (n : ℕ) (q : startupWritten 
   pub startup-written-back : (startupRead reply (startupOut reply c r priv out) ≡ Taken n c r 20 (length priv)) × (part (startupOut reply c r priv out) 20 (length priv) ≡ priv)
   startup-written-back =
       let rest : List ℕ = drop (length (startupOf reply c r priv)) out in (
-        ap (startupRead reply) left ∙ startup-back reply c r priv rest (accepted .short) ∙ ap₂ (λ (t : ℕ) (d : Bool). Taken t c d 20 (length priv)) (accepted .total) (accepted .told),
-        ap (λ (l : List ℕ). part l 20 (length priv)) left ∙ private-back reply c r priv rest (accepted .short),
+        ap (startupRead reply) left ∙ startup-back reply c r priv rest (a .short) ∙ ap₂ (λ (t : ℕ) (d : Bool). Taken t c d 20 (length priv)) (a .total) (a .told),
+        ap (λ (l : List ℕ). part l 20 (length priv)) left ∙ private-back reply c r priv rest (a .short),
       )
 
 -- what a taken frame tells
@@ -159,6 +166,10 @@ module _ (reply : Bool) (bytes : List ℕ) (t : ℕ) (c r : Bool) (s n : ℕ) wh
       enough : (b : Bool) → ltb (length bytes) 20 ≡ b → pick b (Wait 20) (pick (headRight reply bytes) (pick (flagM f) (Refused 15) (startupTaken reply bytes)) (Refused 14)) ≡ Taken t c r s n → Started reply bytes t c r s n
       enough true e q = absurd (let z : _≡_ {A = ℕ} 0 1 = cc in omega arith)
       enough false e q = headed (headRight reply bytes) refl q
+
+-- the private data lies in the bytes
+pub private-inside : (reply : Bool) (bytes : List ℕ) (t : ℕ) (c r : Bool) (s n : ℕ) → startupRead reply bytes ≡ Taken t c r s n → s + n ≤ length bytes
+private-inside reply bytes t c r s n q = let k = started reply bytes t c r s n q in omega (arith, k .start, k .whole)
 
 -- flags with M and the reserved bits clear are C and R
 flags-are : (f : ℕ) → f < 128 → f % 32 ≡ 0 → f ≡ flagsOf (flagC f) (flagR f)

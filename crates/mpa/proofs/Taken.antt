@@ -60,6 +60,10 @@ module _ (on : Bool) (bytes : List ℕ) (t s n : ℕ) where
       two true e q = absurd (let z : _≡_ {A = ℕ} 0 1 = cc in omega arith)
       two false e q = short (ltb maxUlpdu m) refl q
 
+-- the ULPDU lies in the bytes
+pub ulpdu-inside : (on : Bool) (bytes : List ℕ) (t s n : ℕ) → fpduRead on bytes ≡ Taken t s n → s + n ≤ length bytes
+ulpdu-inside on bytes t s n q = let k = took on bytes t s n q in omega (arith, k .start, k .whole)
+
 -- with the CRC on, the four CRC bytes of a taken frame are the definition's, the least significant first
 module _ (bytes : List ℕ) (b : Bytes bytes) (t s n : ℕ) (q : fpduRead true bytes ≡ Taken t s n) where
   k : Took true bytes t s n

@@ -2,7 +2,7 @@
 use mathlib.Core.Path.{sym, ap, _∙_}
 use Rattle.ddp.specs.Segment.{segmentFrom, segmentRead}
 use Rattle.ddp.specs.declared.segment.SegmentRead.the-variants.{Refused}
-use Rattle.ddp.proofs.Segments.{ulpdu-inside}
+use Rattle.mpa.proofs.Taken.{ulpdu-inside}
 use borrow.Author.Needs.{needs}
 use Rattle.ddp.proofs.segment.read_segment.Statement.{statement}
 use Rattle.ddp.proofs.segment.read_segment.Tie as tie

@@ -2,7 +2,7 @@
 use mathlib.Core.Path.{sym, _∙_}
 use native.Mathlib.Omega.{arith}
 use borrow.Author.Needs.{needs}
-use Rattle.replay.proofs.Within.{private-within}
+use Rattle.mpa.proofs.Startups.{private-inside}
 use Rattle.replay.proofs.frames.read_private.Statement.{statement}
 use Rattle.replay.proofs.frames.read_private.Tie as tie
 
@@ -25,7 +25,7 @@ enum-known-total-2 : tie.Need-enum-known-total-2
 enum-known-total-2 c = search needs
 
 add-end : tie.Need-add-end
-add-end c = omega (arith, private-within _ _ _ _ _ _ _ (sym (c .before .before .before .read-startup .ensures) ∙ c .before .total2 .given .1))
+add-end c = omega (arith, private-inside _ _ _ _ _ _ _ (sym (c .before .before .before .read-startup .ensures) ∙ c .before .total2 .given .1))
 
 sub-startup-read : tie.Need-sub-startup-read
 sub-startup-read c = search needs
@@ -34,7 +34,7 @@ part-startup-read-start : tie.Need-part-startup-read-start
 part-startup-read-start c = search needs
 
 part-startup-read-end : tie.Need-part-startup-read-end
-part-startup-read-end c = omega (arith, private-within _ _ _ _ _ _ _ (sym (c .before .before .before .read-startup .ensures) ∙ c .before .total2 .given .1))
+part-startup-read-end c = omega (arith, private-inside _ _ _ _ _ _ _ (sym (c .before .before .before .read-startup .ensures) ∙ c .before .total2 .given .1))
 
 startup-read-requires : tie.Need-startup-read-requires
 startup-read-requires c κs = search needs

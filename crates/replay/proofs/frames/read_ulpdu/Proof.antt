@@ -2,7 +2,7 @@
 use mathlib.Core.Path.{sym, _∙_}
 use native.Mathlib.Omega.{arith}
 use borrow.Author.Needs.{needs}
-use Rattle.replay.proofs.Within.{ulpdu-within}
+use Rattle.mpa.proofs.Taken.{ulpdu-inside}
 use Rattle.replay.proofs.frames.read_ulpdu.Statement.{statement}
 use Rattle.replay.proofs.frames.read_ulpdu.Tie as tie
 
@@ -25,7 +25,7 @@ enum-known-total-2 : tie.Need-enum-known-total-2
 enum-known-total-2 c = search needs
 
 add-end : tie.Need-add-end
-add-end c = omega (arith, ulpdu-within _ _ _ _ _ (sym (c .before .before .before .read-fpdu .ensures) ∙ c .before .total2 .given .1))
+add-end c = omega (arith, ulpdu-inside _ _ _ _ _ (sym (c .before .before .before .read-fpdu .ensures) ∙ c .before .total2 .given .1))
 
 sub-ulpdu-read : tie.Need-sub-ulpdu-read
 sub-ulpdu-read c = search needs
@@ -34,7 +34,7 @@ part-ulpdu-read-start : tie.Need-part-ulpdu-read-start
 part-ulpdu-read-start c = search needs
 
 part-ulpdu-read-end : tie.Need-part-ulpdu-read-end
-part-ulpdu-read-end c = omega (arith, ulpdu-within _ _ _ _ _ (sym (c .before .before .before .read-fpdu .ensures) ∙ c .before .total2 .given .1))
+part-ulpdu-read-end c = omega (arith, ulpdu-inside _ _ _ _ _ (sym (c .before .before .before .read-fpdu .ensures) ∙ c .before .total2 .given .1))
 
 ulpdu-read-requires : tie.Need-ulpdu-read-requires
 ulpdu-read-requires c κs = search needs

@@ -3,7 +3,8 @@ use mathlib.Core.Path.{sym, _∙_}
 use lib.ListN.{drop}
 use lib.Seq.{length-take-le}
 use borrow.Author.Needs.{needs}
-use Rattle.replay.proofs.Within.{front-within, startup-fits}
+use Rattle.replay.proofs.Within.{front-within}
+use Rattle.mpa.proofs.Startups.{admitted}
 use Rattle.replay.proofs.frames.write_private.Statement.{statement}
 use Rattle.replay.proofs.frames.write_private.Tie as tie
 
@@ -23,10 +24,10 @@ enum-known-n : tie.Need-enum-known-n
 enum-known-n c = search needs
 
 slice-reshare-prefix-wrote : tie.Need-slice-reshare-prefix-wrote
-slice-reshare-prefix-wrote c = front-within (c .before .before .before .before .before .write-startup .last .1 .1 .1 .1 .0) (drop (c .before .before .before .before .before .before .before .room .result) (c .before .before .before .before .before .before .before .before .before .before .before .args .frame .now)) _ (c .before .before .before .before .before .write-startup .kept .1 .1 .1 .1 .0) (startup-fits _ _ _ _ _ (sym (c .before .before .before .before .before .write-startup .ensures .0) ∙ c .before .n .given .1))
+slice-reshare-prefix-wrote c = front-within (c .before .before .before .before .before .write-startup .last .1 .1 .1 .1 .0) (drop (c .before .before .before .before .before .before .before .room .result) (c .before .before .before .before .before .before .before .before .before .before .before .args .frame .now)) _ (c .before .before .before .before .before .write-startup .kept .1 .1 .1 .1 .0) (admitted _ _ _ _ _ (sym (c .before .before .before .before .before .write-startup .ensures .0) ∙ c .before .n .given .1) .within)
 
 slice-aggregate-wrote : tie.Need-slice-aggregate-wrote
-slice-aggregate-wrote c = sym (length-take-le _ _ (front-within (c .before .before .before .before .before .before .write-startup .last .1 .1 .1 .1 .0) (drop (c .before .before .before .before .before .before .before .before .room .result) (c .before .before .before .before .before .before .before .before .before .before .before .before .args .frame .now)) _ (c .before .before .before .before .before .before .write-startup .kept .1 .1 .1 .1 .0) (startup-fits _ _ _ _ _ (sym (c .before .before .before .before .before .before .write-startup .ensures .0) ∙ c .before .before .n .given .1))))
+slice-aggregate-wrote c = sym (length-take-le _ _ (front-within (c .before .before .before .before .before .before .write-startup .last .1 .1 .1 .1 .0) (drop (c .before .before .before .before .before .before .before .before .room .result) (c .before .before .before .before .before .before .before .before .before .before .before .before .args .frame .now)) _ (c .before .before .before .before .before .before .write-startup .kept .1 .1 .1 .1 .0) (admitted _ _ _ _ _ (sym (c .before .before .before .before .before .before .write-startup .ensures .0) ∙ c .before .before .n .given .1) .within)))
 
 wrote-requires : tie.Need-wrote-requires
 wrote-requires c κs = search needs
