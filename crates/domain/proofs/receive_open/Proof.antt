@@ -1,0 +1,215 @@
+-- `receive_open` meets its contract: each arm has what `segmentRead` gives, whose payload lies in the bytes, and the callees
+-- give the verdict and what it makes of the domain and of its bytes.
+use Prim.Native.Nat.{ℕ, _+_, _-_, _≤_}
+use mathlib.Core.Path.{_≡_, refl, sym, ap, ap₂, _∙_, subst}
+use mathlib.Core.List.{List}
+use native.Mathlib.Nat.{add-sub-cancel-left}
+use native.Mathlib.Omega.{arith}
+use lib.ListN.{length, take, drop}
+use Rattle.wire.specs.Wire.{part}
+use Rattle.ddp.specs.Untagged.{untaggedOf}
+use Rattle.ddp.specs.declared.header.UntaggedHeader.{UntaggedHeader}
+use Rattle.ddp.specs.declared.window.Window.{Window}
+use Rattle.ddp.specs.declared.segment.SegmentRead.{SegmentRead}
+use Rattle.rdmap.specs.declared.stream.Stream.{Stream}
+use Rattle.rdmap.specs.Message.{queuesOf, untaggedVerdict}
+use Rattle.rdmap.specs.declared.message.Verdict.{Verdict}
+use Rattle.domain.specs.Domain.{streamAt, applied, appliedBytes, receivedSegment, receivedSegmentBytes}
+use Rattle.domain.specs.declared.Domain.{Domain}
+use Rattle.domain.specs.declared.Received.{Received}
+use Rattle.domain.proofs.Inside.{inside}
+use borrow.Author.Needs.{needs}
+use Rattle.domain.proofs.receive_open.Statement.{statement}
+use Rattle.domain.proofs.receive_open.Tie as tie
+
+-- what is lent of the bytes is the payload
+lent : (bytes : List ℕ) (start len : ℕ) → take (start + len - start) (drop start bytes) ≡ part bytes start len
+lent bytes start len = ap (λ (n : ℕ). take n (drop start bytes)) (add-sub-cancel-left start len)
+
+-- the payload ends in the bytes
+tagged-ends : (t : tie.After-total) → t .total .given .0 .1 .1 .0 + t .total .given .0 .1 .1 .1 .0 ≤ length (t .before .before .before .before .before .before .before .before .args .bytes .now)
+tagged-ends t = inside _ _ _ (sym (t .total .given .1) ∙ t .before .before .read-segment .ensures)
+
+untagged-ends : (t : tie.After-total2) → t .total2 .given .0 .1 .1 .0 + t .total2 .given .0 .1 .1 .1 .0 ≤ length (t .before .before .before .before .before .before .before .before .args .bytes .now)
+untagged-ends t = inside _ _ _ (sym (t .total2 .given .1) ∙ t .before .before .read-segment .ensures)
+
+-- what an untagged segment of this payload is judged to be
+abbrev untagged : List Window → ℕ → Stream → UntaggedHeader → List ℕ → Verdict
+untagged windows number s h payload =
+    untaggedVerdict windows number s h payload (untaggedOf (queuesOf s) (h .qn) (h .msn) (h .mo) (length payload))
+
+module _ (d : Domain) (number slot : ℕ) (bytes store : List ℕ) where
+  -- the contract, of what was read
+  abbrev Answers : Received → List ℕ → SegmentRead → Type 0
+  Answers r after s = (r ≡ receivedSegment d number slot bytes s) × (after ≡ receivedSegmentBytes d number slot bytes store s)
+
+  answers : {r : Received} {after : List ℕ} {s t : SegmentRead} → s ≡ t → Answers r after s → Answers r after t
+  answers {r} {after} e h = subst (λ (x : SegmentRead). Answers r after x) e h
+
+  -- a verdict that is applied, with the payload that was lent
+  judged :
+      (total start len : ℕ) {r : Received} {after : List ℕ} {v w : Verdict} →
+      v ≡ w →
+      r ≡ applied d slot total v →
+      after ≡ appliedBytes (d .part .start) v (take (start + len - start) (drop start bytes)) store →
+      (r ≡ applied d slot total w) × (after ≡ appliedBytes (d .part .start) w (part bytes start len) store)
+  judged total start len e f g = (
+    f ∙ ap (applied d slot total) e,
+    g ∙ ap₂ (λ (v : Verdict) (p : List ℕ). appliedBytes (d .part .start) v p store) e (lent bytes start len),
+  )
+
+mul-s : tie.Need-mul-s
+mul-s c = search needs
+
+element-copy-out-s : tie.Need-element-copy-out-s
+element-copy-out-s c = search needs
+
+read-segment-requires : tie.Need-read-segment-requires
+read-segment-requires c κs = search needs
+
+enum-known-n : tie.Need-enum-known-n
+enum-known-n c = search needs
+
+enum-known-refusal : tie.Need-enum-known-refusal
+enum-known-refusal c = search needs
+
+apply-requires : tie.Need-apply-requires
+apply-requires c κs = search needs
+
+enum-known-total : tie.Need-enum-known-total
+enum-known-total c = search needs
+
+add-end : tie.Need-add-end
+add-end c = omega (arith, tagged-ends (c .before))
+
+judge-tagged-segment-requires : tie.Need-judge-tagged-segment-requires
+judge-tagged-segment-requires c κs = search needs
+
+sub-place-by : tie.Need-sub-place-by
+sub-place-by c = search needs
+
+part-place-by-start : tie.Need-part-place-by-start
+part-place-by-start c = search needs
+
+part-place-by-end : tie.Need-part-place-by-end
+part-place-by-end c = omega (arith, tagged-ends (c .before .before .before))
+
+place-by-requires : tie.Need-place-by-requires
+place-by-requires c κs = search needs
+
+apply-requires-2 : tie.Need-apply-requires-2
+apply-requires-2 c κs = search needs
+
+enum-known-total-2 : tie.Need-enum-known-total-2
+enum-known-total-2 c = search needs
+
+add-end-2 : tie.Need-add-end-2
+add-end-2 c = omega (arith, untagged-ends (c .before))
+
+sub-judge-untagged-segment : tie.Need-sub-judge-untagged-segment
+sub-judge-untagged-segment c = search needs
+
+part-judge-untagged-segment-start : tie.Need-part-judge-untagged-segment-start
+part-judge-untagged-segment-start c = search needs
+
+part-judge-untagged-segment-end : tie.Need-part-judge-untagged-segment-end
+part-judge-untagged-segment-end c = omega (arith, untagged-ends (c .before))
+
+judge-untagged-segment-requires : tie.Need-judge-untagged-segment-requires
+judge-untagged-segment-requires c κs = search needs
+
+sub-place-by-2 : tie.Need-sub-place-by-2
+sub-place-by-2 c = search needs
+
+part-place-by-start-2 : tie.Need-part-place-by-start-2
+part-place-by-start-2 c = search needs
+
+part-place-by-end-2 : tie.Need-part-place-by-end-2
+part-place-by-end-2 c = omega (arith, untagged-ends (c .before .before .before .before))
+
+place-by-requires-2 : tie.Need-place-by-requires-2
+place-by-requires-2 c κs = search needs
+
+apply-requires-3 : tie.Need-apply-requires-3
+apply-requires-3 c κs = search needs
+
+returns : tie.Need-returns
+returns c =
+    let a = c .before .before .before .before .before .before .before .before .before .args in
+    answers (a .t1) (a .number) (a .slot) (a .bytes .now) (a .store .now)
+    (sym (c .before .n .given .1) ∙ c .before .before .before .read-segment .ensures)
+    (refl, refl)
+
+returns-2 : tie.Need-returns-2
+returns-2 c =
+    let a = c .before .before .before .before .before .before .before .before .before .before .args in
+    answers (a .t1) (a .number) (a .slot) (a .bytes .now) (a .store .now)
+    (sym (c .before .before .refusal .given .1) ∙ c .before .before .before .before .read-segment .ensures)
+    (c .apply .ensures, refl)
+
+same-length : tie.Need-same-length
+same-length c = search needs
+
+returns-3 : tie.Need-returns-3
+returns-3 c =
+    let t = c .before .before .before .before .before .before .before .before in
+    let a = t .before .before .before .before .before .before .before .before .args in
+    let g = t .total .given in
+    answers (a .t1) (a .number) (a .slot) (a .bytes .now) (a .store .now)
+    (sym (g .1) ∙ t .before .before .read-segment .ensures)
+    (judged (a .t1) (a .number) (a .slot) (a .bytes .now) (a .store .now) (g .0 .0) (g .0 .1 .1 .0) (g .0 .1 .1 .1 .0)
+    (c .before .before .before .before .before .before .judge-tagged-segment .ensures)
+    (c .apply2 .ensures)
+    (c .before .before .before .place-by .ensures))
+
+same-length-2 : tie.Need-same-length-2
+same-length-2 c = search needs
+
+returns-4 : tie.Need-returns-4
+returns-4 c =
+    let t = c .before .before .before .before .before .before .before .before .before in
+    let a = t .before .before .before .before .before .before .before .before .args in
+    let g = t .total2 .given in
+    answers (a .t1) (a .number) (a .slot) (a .bytes .now) (a .store .now)
+    (sym (g .1) ∙ t .before .before .read-segment .ensures)
+    (judged (a .t1) (a .number) (a .slot) (a .bytes .now) (a .store .now) (g .0 .0) (g .0 .1 .1 .0) (g .0 .1 .1 .1 .0)
+    (c .before .before .before .before .before .before .judge-untagged-segment .ensures
+    ∙ ap (untagged (a .t1 .windows) (a .number) (streamAt (a .t1) (a .slot)) (g .0 .1 .0)) (lent (a .bytes .now) (g .0 .1 .1 .0) (g .0 .1 .1 .1 .0)))
+    (c .apply3 .ensures)
+    (c .before .before .before .place-by2 .ensures))
+
+pub receive-open-spec : {M : Type 1} → statement M
+receive-open-spec =
+    tie.close
+    (tie.spec
+    mul-s
+    element-copy-out-s
+    read-segment-requires
+    enum-known-n
+    enum-known-refusal
+    apply-requires
+    enum-known-total
+    add-end
+    judge-tagged-segment-requires
+    sub-place-by
+    part-place-by-start
+    part-place-by-end
+    place-by-requires
+    apply-requires-2
+    enum-known-total-2
+    add-end-2
+    sub-judge-untagged-segment
+    part-judge-untagged-segment-start
+    part-judge-untagged-segment-end
+    judge-untagged-segment-requires
+    sub-place-by-2
+    part-place-by-start-2
+    part-place-by-end-2
+    place-by-requires-2
+    apply-requires-3
+    returns
+    returns-2
+    same-length
+    returns-3
+    same-length-2
+    returns-4)
