@@ -17,16 +17,16 @@ pub const STORE: usize = 1_048_576;
 const MAX_ROOM: u64 = 65_536;
 
 /// A device with the program's store and the count of bytes that it lends.
-pub struct Session {
+pub struct Interpreter {
     pub device: Device,
     pub store: Vec<u8>,
     lent: usize,
 }
 
-impl Default for Session {
+impl Default for Interpreter {
     /// Starts with a zero store and the box that a refused opening leaves.
     fn default() -> Self {
-        Session {
+        Interpreter {
             device: Device::default(),
             store: vec![0; STORE],
             lent: 0,
@@ -34,7 +34,7 @@ impl Default for Session {
     }
 }
 
-impl Session {
+impl Interpreter {
     /// Runs one line without its newline; a comment or an empty line has no answer.
     pub fn run_line(&mut self, line: &[u8]) -> Option<String> {
         match parse(line) {
@@ -234,13 +234,13 @@ pub fn run(
     mut output: impl Write,
     mut watch: impl FnMut(&[u8], &str),
 ) -> io::Result<()> {
-    let mut session = Session::default();
+    let mut interpreter = Interpreter::default();
     let mut line = Vec::new();
     while input.read_until(b'\n', &mut line)? > 0 {
         if line.last() == Some(&b'\n') {
             line.pop();
         }
-        if let Some(answer) = session.run_line(&line) {
+        if let Some(answer) = interpreter.run_line(&line) {
             writeln!(output, "{answer}")?;
             watch(&line, &answer);
         }

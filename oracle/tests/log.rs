@@ -5,7 +5,7 @@ use oracle::device::{Device, Part};
 use oracle::hex;
 use oracle::mpa::fpdu_total;
 use oracle::receive::Answer;
-use oracle::script::Session;
+use oracle::script::Interpreter;
 
 const SCENE: [&str; 3] = [
     "open 4096 0 1024 1024 2048 2048 3072 3072 4096",
@@ -14,17 +14,17 @@ const SCENE: [&str; 3] = [
 ];
 
 /// Opens the log's scene.
-fn scene() -> Session {
-    let mut session = Session::default();
+fn scene() -> Interpreter {
+    let mut interpreter = Interpreter::default();
     for line in SCENE {
-        say(&mut session, line);
+        say(&mut interpreter, line);
     }
-    session
+    interpreter
 }
 
 /// Runs one line and gives its answer.
-fn say(session: &mut Session, line: &str) -> String {
-    session.run_line(line.as_bytes()).unwrap_or_default()
+fn say(interpreter: &mut Interpreter, line: &str) -> String {
+    interpreter.run_line(line.as_bytes()).unwrap_or_default()
 }
 
 /// Gives the log's Write with an STag, a tagged offset and four bytes.
@@ -34,10 +34,10 @@ fn write(stag: u32, to: u64) -> String {
 
 /// Receives the log's Write in the scene and gives the answer.
 fn write_answer(stream: u64, stag: u32, to: u64) -> String {
-    let mut session = scene();
-    say(&mut session, "stream 0 off");
+    let mut interpreter = scene();
+    say(&mut interpreter, "stream 0 off");
     say(
-        &mut session,
+        &mut interpreter,
         &format!("receive {stream} {}", write(stag, to)),
     )
 }
@@ -50,25 +50,25 @@ fn fpdu_totals() {
 
 #[test]
 fn write_changes_its_four_bytes_alone() {
-    let mut session = scene();
-    session.store.fill(0x77);
-    let mut expected = session.store.clone();
+    let mut interpreter = scene();
+    interpreter.store.fill(0x77);
+    let mut expected = interpreter.store.clone();
     expected[1024..1028].copy_from_slice(&[0xDE, 0xAD, 0xBE, 0xEF]);
     let line = "receive 4 0012C140000011050000000000001000DEADBEEF01020304";
-    assert_eq!(say(&mut session, line), "taken 24");
-    assert!(session.store == expected);
+    assert_eq!(say(&mut interpreter, line), "taken 24");
+    assert!(interpreter.store == expected);
 }
 
 #[test]
 fn cut_write_waits() {
-    let mut session = scene();
+    let mut interpreter = scene();
     let frame = write(0x1105, 4096);
-    let before = session.device.clone();
+    let before = interpreter.device.clone();
     let line = format!("receive 4 {}", &frame[..46]);
-    assert_eq!(say(&mut session, &line), "wait 24");
-    assert_eq!(say(&mut session, "receive 4 00"), "wait 2");
-    assert_eq!(say(&mut session, "receive 4 -"), "wait 2");
-    assert!(session.device == before);
+    assert_eq!(say(&mut interpreter, &line), "wait 24");
+    assert_eq!(say(&mut interpreter, "receive 4 00"), "wait 2");
+    assert_eq!(say(&mut interpreter, "receive 4 -"), "wait 2");
+    assert!(interpreter.device == before);
 }
 
 #[test]
@@ -82,40 +82,46 @@ fn write_refusals() {
 
 #[test]
 fn other_domain_after_drop() {
-    let mut session = scene();
-    say(&mut session, "stream 0 off");
-    assert_eq!(say(&mut session, "drop 17"), "done");
+    let mut interpreter = scene();
+    say(&mut interpreter, "stream 0 off");
+    assert_eq!(say(&mut interpreter, "drop 17"), "done");
     let line = format!("receive 0 {}", write(0x1105, 4096));
-    assert_eq!(say(&mut session, &line), "refused 24 1/1/02");
+    assert_eq!(say(&mut interpreter, &line), "refused 24 1/1/02");
 }
 
 #[test]
 fn read_right_only() {
-    let mut session = scene();
-    say(&mut session, "drop 17");
-    say(&mut session, "register 17 6 4096 4 1024 2");
+    let mut interpreter = scene();
+    say(&mut interpreter, "drop 17");
+    say(&mut interpreter, "register 17 6 4096 4 1024 2");
     let line = format!("receive 4 {}", write(0x1106, 4096));
-    assert_eq!(say(&mut session, &line), "refused 35 0/1/02");
+    assert_eq!(say(&mut interpreter, &line), "refused 35 0/1/02");
 }
 
 #[test]
 fn empty_write_names_no_window() {
-    let mut session = scene();
+    let mut interpreter = scene();
     let line = "receive 4 000ec14000000000000000000000000000000000";
-    assert_eq!(say(&mut session, line), "taken 20");
+    assert_eq!(say(&mut interpreter, line), "taken 20");
 }
 
 #[test]
 fn send_of_five_bytes() {
     let line = "receive 4 001741430000000000000000000000010000000048454c4c4f000000000000ff";
-    let mut session = scene();
-    assert_eq!(say(&mut session, "post 4 1100 5"), "done");
-    assert_eq!(say(&mut session, line), "taken 32 send 1100 5 3");
-    assert_eq!(say(&mut session, "bytes 1099 7"), "bytes 0048454c4c4f00");
-    let mut session = scene();
-    assert_eq!(say(&mut session, "post 4 1100 4"), "done");
-    assert_eq!(say(&mut session, line), "refused 32 1/2/05");
-    assert_eq!(say(&mut session, "bytes 1099 7"), "bytes 00000000000000");
+    let mut interpreter = scene();
+    assert_eq!(say(&mut interpreter, "post 4 1100 5"), "done");
+    assert_eq!(say(&mut interpreter, line), "taken 32 send 1100 5 3");
+    assert_eq!(
+        say(&mut interpreter, "bytes 1099 7"),
+        "bytes 0048454c4c4f00"
+    );
+    let mut interpreter = scene();
+    assert_eq!(say(&mut interpreter, "post 4 1100 4"), "done");
+    assert_eq!(say(&mut interpreter, line), "refused 32 1/2/05");
+    assert_eq!(
+        say(&mut interpreter, "bytes 1099 7"),
+        "bytes 00000000000000"
+    );
 }
 
 #[test]
@@ -139,10 +145,10 @@ fn last_msn_is_followed_by_zero() {
 #[test]
 fn startup_request_whole() {
     let frame = "4d504120494420526571204672616d65400100024142";
-    let mut session = Session::default();
-    let written = say(&mut session, "startup req 1 0 4142 22");
+    let mut interpreter = Interpreter::default();
+    let written = say(&mut interpreter, "startup req 1 0 4142 22");
     assert_eq!(written, format!("wrote 22 {frame}"));
-    let read = say(&mut session, &format!("unstartup req {frame}"));
+    let read = say(&mut interpreter, &format!("unstartup req {frame}"));
     assert_eq!(read, "startup 22 1 0 4142");
 }
 

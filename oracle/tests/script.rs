@@ -1,6 +1,6 @@
 //! The lines of a script as such, and the local refusals.
 
-use oracle::script::{run, Session};
+use oracle::script::{run, Interpreter};
 
 /// Runs a script on a new program and gives what it writes.
 fn replay(script: &[u8]) -> String {
@@ -11,9 +11,9 @@ fn replay(script: &[u8]) -> String {
 
 /// Runs each line and compares its answer.
 fn check(lines: &[(&str, &str)]) {
-    let mut session = Session::default();
+    let mut interpreter = Interpreter::default();
     for (line, answer) in lines {
-        let given = session.run_line(line.as_bytes()).unwrap_or_default();
+        let given = interpreter.run_line(line.as_bytes()).unwrap_or_default();
         assert_eq!(&given, answer, "{line}");
     }
 }

@@ -9,13 +9,13 @@ use super::segments::Kind;
 use crate::device::{stream_domain, Condition, Part};
 use crate::device::{DOMAINS, STREAMS, WINDOWS, WINDOWS_PER_DOMAIN};
 use crate::hex;
-use crate::script::{Session, STORE};
+use crate::script::{Interpreter, STORE};
 
 /// Writes a script of `count` lines, the last of which shows the whole store.
 pub fn write_script(seed: u64, count: u64, mut out: impl Write) -> io::Result<()> {
     let mut night = Night {
         prng: Prng::new(seed),
-        session: Session::default(),
+        interpreter: Interpreter::default(),
         lines: Vec::new(),
         left: count.saturating_sub(1),
     };
@@ -33,7 +33,7 @@ pub fn write_script(seed: u64, count: u64, mut out: impl Write) -> io::Result<()
 /// A night under way: its lines not yet written and the number still to come.
 pub(super) struct Night {
     pub(super) prng: Prng,
-    pub(super) session: Session,
+    pub(super) interpreter: Interpreter,
     lines: Vec<u8>,
     pub(super) left: u64,
 }
@@ -47,12 +47,12 @@ impl Night {
         self.left -= 1;
         self.lines.extend(line);
         self.lines.push(b'\n');
-        self.session.run_line(line).unwrap_or_default()
+        self.interpreter.run_line(line).unwrap_or_default()
     }
 
     /// Goes one step on: an opening, or a call that the picked stream's condition suggests.
     fn step(&mut self) {
-        let length = self.session.device.length;
+        let length = self.interpreter.device.length;
         let usable = (1..=STORE as u64).contains(&length);
         if self.prng.below(1000) < if usable { 2 } else { 70 } {
             let line = opening(&mut self.prng);
@@ -60,7 +60,7 @@ impl Night {
             return;
         }
         let stream = self.prng.index(STREAMS);
-        match self.session.device.streams[stream].condition {
+        match self.interpreter.device.streams[stream].condition {
             Condition::Closed if self.prng.percent(85) => self.open_stream(stream),
             Condition::Faulted(_) | Condition::Terminated if self.prng.percent(60) => {
                 self.say(format!("close {stream}").as_bytes());
@@ -145,13 +145,13 @@ impl Night {
     fn register(&mut self) {
         let domain = self.prng.index(DOMAINS);
         let first = domain * WINDOWS_PER_DOMAIN;
-        let free = self.session.device.free(domain as u64).unwrap_or(0);
+        let free = self.interpreter.device.free(domain as u64).unwrap_or(0);
         let slot = match self.prng.percent(80) {
             true => free.min(WINDOWS_PER_DOMAIN - 1),
             false => self.prng.index(WINDOWS_PER_DOMAIN),
         };
         let window = self.number(first + slot, WINDOWS);
-        let (place, length) = self.extent(self.session.device.parts[domain], 120);
+        let (place, length) = self.extent(self.interpreter.device.parts[domain], 120);
         let prng = &mut self.prng;
         let (some, low) = (prng.between(1, 255), prng.between(1, 4));
         let key = match prng.below(60) {
@@ -182,7 +182,7 @@ impl Night {
 
     /// Posts a buffer.
     pub(super) fn post(&mut self, stream: usize) {
-        let (start, length) = self.extent(self.session.device.parts[stream_domain(stream)], 90);
+        let (start, length) = self.extent(self.interpreter.device.parts[stream_domain(stream)], 90);
         let number = self.number(stream, STREAMS);
         self.say(format!("post {number} {start} {length}").as_bytes());
     }
@@ -190,7 +190,7 @@ impl Night {
     /// Shows some bytes of the store.
     fn show(&mut self) {
         let prng = &mut self.prng;
-        let part = prng.pick(&self.session.device.parts);
+        let part = prng.pick(&self.interpreter.device.parts);
         let (start, length) = match prng.below(10) {
             0 => (0, 5000),
             1 => (STORE as u64 - prng.below(20), prng.below(20)),
@@ -205,7 +205,7 @@ impl Night {
         let prng = &mut self.prng;
         let start = match prng.below(8) {
             0 => STORE as u64 - prng.below(40),
-            _ => prng.below(self.session.device.length.max(100)),
+            _ => prng.below(self.interpreter.device.length.max(100)),
         };
         let length = prng.index(40);
         let bytes = prng.bytes(length);

@@ -10,10 +10,10 @@ impl Night {
     /// Receives an FPDU that is most often good, now and then first cut, or with another store lent.
     pub(super) fn receive(&mut self, stream: usize) {
         let kind = kind(&mut self.prng);
-        if kind == Kind::Send && self.session.device.streams[stream].buffers.is_empty() {
+        if kind == Kind::Send && self.interpreter.device.streams[stream].buffers.is_empty() {
             self.post(stream);
         }
-        let bytes = fpdu(&mut self.prng, &self.session.device, stream, kind, 16);
+        let bytes = fpdu(&mut self.prng, &self.interpreter.device, stream, kind, 16);
         if self.prng.percent(4) {
             let cut = &bytes[..self.prng.index(bytes.len().max(1))];
             self.say(format!("receive {stream} {}", hex::encode(cut)).as_bytes());
@@ -25,7 +25,7 @@ impl Night {
 
     /// Gives the word of another lent length, or nothing.
     fn lent(&mut self) -> String {
-        let length = self.session.device.length;
+        let length = self.interpreter.device.length;
         let store = STORE as u64;
         if length == 0 && self.prng.percent(70) {
             return String::from(" 0");
@@ -42,7 +42,7 @@ impl Night {
 
     /// Receives a good FPDU of a kind.
     pub(super) fn receive_good(&mut self, stream: usize, kind: Kind) {
-        let bytes = fpdu(&mut self.prng, &self.session.device, stream, kind, 0);
+        let bytes = fpdu(&mut self.prng, &self.interpreter.device, stream, kind, 0);
         self.say(format!("receive {stream} {}", hex::encode(&bytes)).as_bytes());
     }
 
@@ -61,7 +61,7 @@ impl Night {
 
     /// Makes several FPDUs that follow each other, tried on a copy of the device.
     fn batch_bytes(&mut self, stream: usize, faulty: u64) -> Vec<u8> {
-        let mut device = self.session.device.clone();
+        let mut device = self.interpreter.device.clone();
         let mut store = vec![0; device.length as usize];
         let mut slice = Vec::new();
         for _ in 0..self.prng.between(2, 5) {
