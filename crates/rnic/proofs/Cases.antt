@@ -1,0 +1,136 @@
+-- The twelve worked cases that the paper marks to be proved, as one table: what each gives, what it must give, and one test that
+-- antt computes over the whole table.
+-- Assumes nothing.
+use mathlib.Core.Path.{_≡_, refl}
+use mathlib.Core.Bool.{Bool, true, false}
+use mathlib.Core.List.{List, [], _∷_, _++_}
+use Prim.Native.Nat.{ℕ, zero, suc, _+_, _-_, _<_}
+use native.Mathlib.Omega.{arith}
+use native.Mathlib.Nat.{le-of-suc-le-suc, not-suc-le-zero}
+use lib.ListN.{length, getD, take, replicate}
+use Rattle.wire.specs.Wire.{both, same, put, be16, be32, be64}
+use Rattle.wire.proofs.Laws.{same-eq}
+use Rattle.mpa.specs.Fpdu.{totalOf, fpduRead, fpduReadOf}
+use Rattle.mpa.specs.Startup.{startupOf}
+use Rattle.ddp.specs.Part.{inPart}
+use Rattle.ddp.specs.Window.{inRange, windowFits, registered, dropped, named, found, wraps, spanned}
+use Rattle.ddp.specs.Buffer.{posted, poppedOf}
+use Rattle.ddp.specs.Header.{taggedFields, untaggedFields, taggedRead, untaggedRead, headerRead}
+use Rattle.ddp.specs.Segment.{segmentRead}
+use Rattle.ddp.specs.Tagged.{taggedOf}
+use Rattle.ddp.specs.Untagged.{untaggedIn, untaggedOf, nextMsn}
+use Rattle.ddp.specs.Place.{fits, placed}
+use Rattle.rdmap.specs.Message.{sendVerdict, readVerdict, terminateVerdict, messageVerdict, queuesOf}
+use Rattle.rdmap.specs.Stream.{opened, postedOn, sentOn, openedStream}
+use Rattle.domain.specs.Domain.{domainOpened, domainPosted, domainRegistered, domainDropped, applied, placedFrom, appliedBytes, domainReceived, domainReceivedBytes}
+use Rattle.domain.specs.declared.Answer.{Answer}
+use Rattle.domain.specs.declared.Answer.the-variants.{Wait, Taken, Ended, Refused}
+use Rattle.domain.specs.declared.Event.the-variants.{NoEvent, Sent, SentInvalidating, Terminated}
+use Rattle.rnic.specs.Rnic.{openedRnic, rnicOpened, rnicPosted, rnicRegistered, rnicDropped, receivedOwned, receivedOwnedStore, rnicReceived, rnicReceivedStore}
+use Rattle.rnic.specs.declared.Rnic.{Rnic}
+
+-- an answer in numbers: Wait n; Taken with its total and event; a peer refusal's number, layer, type and code; a local refusal's number
+abbrev code : Answer → List ℕ
+code (Wait n) = 0 ∷ n ∷ []
+code (Taken total NoEvent) = 1 ∷ total ∷ []
+code (Taken total (Sent start len opcode)) = 2 ∷ total ∷ start ∷ len ∷ opcode ∷ []
+code (Taken total (SentInvalidating start len opcode stag)) = 3 ∷ total ∷ start ∷ len ∷ opcode ∷ stag ∷ []
+code (Taken total (Terminated layer etype c)) = 4 ∷ total ∷ layer ∷ etype ∷ c ∷ []
+code (Ended r) = 5 ∷ r .number ∷ r .layer ∷ r .etype ∷ r .code ∷ []
+code (Refused n) = 6 ∷ n ∷ []
+
+-- "Store 4,096, parts of 1,024 each. Window 17, key 5, base 4,096, length 4, place 1,024, write. Stream 4, CRC off."
+abbrev empty : Rnic
+empty = openedRnic 4096 0 1024 1024 2048 2048 3072 3072 4096 .rnic
+
+abbrev window : ℕ → Rnic
+window rights = rnicRegistered empty 17 5 4096 4 1024 rights .rnic
+
+abbrev device : ℕ → Rnic
+device stream = rnicOpened (window 1) stream false .rnic
+
+-- a store in which every byte is 7
+abbrev store : List ℕ
+store = replicate 4096 7
+
+-- a Write's FPDU of a payload of 0 or 4 bytes, whose CRC is not looked at
+abbrev write : ℕ → ℕ → List ℕ → List ℕ
+write stag to payload = be16 (14 + length payload) ++ (0xC1 ∷ 0x40 ∷ (be32 stag ++ (be64 to ++ (payload ++ (0 ∷ 0 ∷ 0 ∷ 0 ∷ [])))))
+
+abbrev beef : List ℕ
+beef = 0xDE ∷ 0xAD ∷ 0xBE ∷ 0xEF ∷ []
+
+-- the paper's frame, byte for byte, and 4 bytes
+abbrev paper : List ℕ
+paper = 0x00 ∷ 0x12 ∷ 0xC1 ∷ 0x40 ∷ 0x00 ∷ 0x00 ∷ 0x11 ∷ 0x05 ∷ 0x00 ∷ 0x00 ∷ 0x00 ∷ 0x00 ∷ 0x00 ∷ 0x00 ∷ 0x10 ∷ 0x00 ∷ 0xDE ∷ 0xAD ∷ 0xBE ∷ 0xEF ∷ 0 ∷ 0 ∷ 0 ∷ 0 ∷ []
+
+-- "A 5-byte Send, L set, MSN 1"
+abbrev send : List ℕ
+send = be16 23 ++ (0x41 ∷ 0x43 ∷ (be32 0 ++ (be32 0 ++ (be32 1 ++ (be32 0 ++ (1 ∷ 2 ∷ 3 ∷ 4 ∷ 5 ∷ 0 ∷ 0 ∷ 0 ∷ 0 ∷ 0 ∷ 0 ∷ 0 ∷ []))))))
+
+-- what receive answers
+abbrev answer : Rnic → ℕ → List ℕ → List ℕ
+answer b stream input = code (rnicReceived b 4096 stream input .answer)
+
+record Check : Type 0 where
+  got : List ℕ
+  want : List ℕ
+
+abbrev gives : List ℕ → List ℕ → Check
+gives got want = record { got = got; want = want }
+
+abbrev log : List Check
+log =
+    -- FPDU totals for ULPDU 0, 14, 15, 18, 23, 2,048
+    gives (totalOf 0 ∷ totalOf 14 ∷ totalOf 15 ∷ totalOf 18 ∷ totalOf 23 ∷ totalOf 2048 ∷ []) (8 ∷ 20 ∷ 24 ∷ 24 ∷ 32 ∷ 2056 ∷ [])
+    -- Taken 24; bytes 1,024 to 1,027 become DE AD BE EF, no other changes
+    ∷ gives (answer (device 4) 4 paper) (1 ∷ 24 ∷ [])
+    ∷ gives (rnicReceivedStore (device 4) 4 paper store) (put store 1024 beef)
+    -- with 23 bytes present: Wait 24; with 1: Wait 2
+    ∷ gives (answer (device 4) 4 (take 23 paper)) (0 ∷ 24 ∷ [])
+    ∷ gives (answer (device 4) 4 (take 1 paper)) (0 ∷ 2 ∷ [])
+    -- TO 4,097: 27
+    ∷ gives (answer (device 4) 4 (write 0x1105 4097 beef)) (5 ∷ 27 ∷ 1 ∷ 1 ∷ 0x01 ∷ [])
+    -- Key 6: 25
+    ∷ gives (answer (device 4) 4 (write 0x1106 4096 beef)) (5 ∷ 25 ∷ 1 ∷ 1 ∷ 0x00 ∷ [])
+    -- On stream 0: 24, also after window 17 is dropped
+    ∷ gives (answer (device 0) 0 paper) (5 ∷ 24 ∷ 1 ∷ 1 ∷ 0x02 ∷ [])
+    ∷ gives (answer (rnicDropped (device 0) 17 .rnic) 0 paper) (5 ∷ 24 ∷ 1 ∷ 1 ∷ 0x02 ∷ [])
+    -- TO 2^64 − 4: 27; 2^64 − 3: 26
+    ∷ gives (answer (device 4) 4 (write 0x1105 18446744073709551612 beef)) (5 ∷ 27 ∷ 1 ∷ 1 ∷ 0x01 ∷ [])
+    ∷ gives (answer (device 4) 4 (write 0x1105 18446744073709551613 beef)) (5 ∷ 26 ∷ 1 ∷ 1 ∷ 0x03 ∷ [])
+    -- Read right only: 35
+    ∷ gives (answer (rnicOpened (window 2) 4 false .rnic) 4 paper) (5 ∷ 35 ∷ 0 ∷ 1 ∷ 0x02 ∷ [])
+    -- No payload, STag 0: Taken 20
+    ∷ gives (answer (device 4) 4 (write 0 0 [])) (1 ∷ 20 ∷ [])
+    -- A 5-byte Send, buffer at 1,100: of 5 bytes, Taken 32; of 4, refusal 32
+    ∷ gives (answer (rnicPosted (device 4) 4 1100 5 .rnic) 4 send) (2 ∷ 32 ∷ 1100 ∷ 5 ∷ 3 ∷ [])
+    ∷ gives (answer (rnicPosted (device 4) 4 1100 4 .rnic) 4 send) (5 ∷ 32 ∷ 1 ∷ 2 ∷ 0x05 ∷ [])
+    -- MSN 4,294,967,295 is followed by 0
+    ∷ gives (nextMsn 4294967295 ∷ []) (0 ∷ [])
+    -- Request, C set, data AB, whole
+    ∷ gives (startupOf false true false (0x41 ∷ 0x42 ∷ []))
+    (0x4D ∷ 0x50 ∷ 0x41 ∷ 0x20 ∷ 0x49 ∷ 0x44 ∷ 0x20 ∷ 0x52 ∷ 0x65 ∷ 0x71 ∷ 0x20 ∷ 0x46 ∷ 0x72 ∷ 0x61 ∷ 0x6D ∷ 0x65 ∷ 0x40 ∷ 0x01 ∷ 0x00 ∷ 0x02 ∷ 0x41 ∷ 0x42 ∷ [])
+    ∷ []
+
+abbrev all : List Check → Bool
+all [] = true
+all (x ∷ xs) = both (same (x .got) (x .want)) (all xs)
+
+-- the test passes over the whole table
+log-holds : all log ≡ true
+unfolding fpduRead fpduReadOf startupOf inPart inRange windowFits registered dropped named found wraps spanned posted poppedOf taggedFields untaggedFields taggedRead untaggedRead headerRead segmentRead taggedOf untaggedIn untaggedOf fits placed sendVerdict readVerdict terminateVerdict messageVerdict queuesOf opened postedOn domainOpened domainPosted domainRegistered domainDropped applied placedFrom appliedBytes domainReceived domainReceivedBytes openedRnic rnicOpened rnicPosted rnicRegistered rnicDropped receivedOwned receivedOwnedStore rnicReceived rnicReceivedStore
+log-holds = refl
+
+both-true : (a b : Bool) → both a b ≡ true → (a ≡ true) × (b ≡ true)
+both-true true b e = (refl, e)
+both-true false b e = absurd (let z : _≡_ {A = ℕ} 0 1 = cc in omega arith)
+
+-- so each case gives what it must
+each : (xs : List Check) → all xs ≡ true → (i : ℕ) → i < length xs → getD xs i (gives [] []) .got ≡ getD xs i (gives [] []) .want
+each [] e i h = absurd (not-suc-le-zero h)
+each (x ∷ xs) e zero h = same-eq (x .got) (x .want) (both-true (same (x .got) (x .want)) (all xs) e .0)
+each (x ∷ xs) e (suc i) h = each xs (both-true (same (x .got) (x .want)) (all xs) e .1) i (le-of-suc-le-suc h)
+
+pub worked-cases : (i : ℕ) → i < length log → getD log i (gives [] []) .got ≡ getD log i (gives [] []) .want
+worked-cases = each log log-holds

@@ -1,0 +1,137 @@
+-- What every step of a domain keeps: where its part lies, and how many bytes it has. By cases on the tests of each definition.
+use Prim.Native.Nat.{ℕ, _-_, _+_}
+use mathlib.Core.Path.{_≡_, refl}
+use mathlib.Core.Bool.{Bool, true, false}
+use mathlib.Core.List.{List}
+use lib.ListN.{length}
+use lib.Dec.{leb}
+use borrow.Author.Tests.{leb-true}
+use Rattle.wire.specs.Wire.{pick, part}
+use Rattle.wire.proofs.Laws.{length-put}
+use Rattle.ddp.specs.Place.{fits, placed}
+use Rattle.ddp.specs.Segment.{segmentRead}
+use Rattle.ddp.specs.declared.segment.SegmentRead.{SegmentRead}
+use Rattle.ddp.specs.declared.segment.SegmentRead.the-variants.{Wait, Refused as SegmentRefused, Tagged, Untagged}
+use Rattle.rdmap.specs.Stream.{readiness}
+use Rattle.rdmap.specs.declared.message.Invalidate.the-variants.{NoStag, Stag}
+use Rattle.rdmap.specs.declared.message.Verdict.{Verdict}
+use Rattle.rdmap.specs.declared.message.Verdict.the-variants.{Refused as VerdictRefused, Nothing, Write, SendMore, SendLast, Read, Terminate}
+use Rattle.rdmap.specs.declared.stream.Readiness.{Readiness}
+use Rattle.rdmap.specs.declared.stream.Readiness.the-variants.{Ready, NotReady}
+use Rattle.domain.specs.Domain.{streamAt, domainOpened, domainClosed, domainPosted, domainTaken, domainRegistered, domainDropped, domainReceived, domainReceivedBytes, applied, appliedBytes, placedFrom, segmentJudged, receivedSegment, receivedSegmentBytes, receivedWhen, receivedBytesWhen}
+use Rattle.domain.specs.declared.Domain.{Domain}
+use Rattle.domain.specs.declared.DomainDone.{DomainDone}
+use Rattle.domain.specs.declared.DomainClosed.{DomainClosed}
+use Rattle.domain.specs.declared.DomainTaken.{DomainTaken}
+use Rattle.domain.specs.declared.Received.{Received}
+
+module _ (d : Domain) where
+  done-part : (t : Bool) (x y : DomainDone) → x .domain .part ≡ d .part → y .domain .part ≡ d .part → pick t x y .domain .part ≡ d .part
+  done-part true x y p q = p
+  done-part false x y p q = q
+
+  closed-part : (t : Bool) (x y : DomainClosed) → x .domain .part ≡ d .part → y .domain .part ≡ d .part → pick t x y .domain .part ≡ d .part
+  closed-part true x y p q = p
+  closed-part false x y p q = q
+
+  taken-part : (t : Bool) (x y : DomainTaken) → x .domain .part ≡ d .part → y .domain .part ≡ d .part → pick t x y .domain .part ≡ d .part
+  taken-part true x y p q = p
+  taken-part false x y p q = q
+
+  received-part : (t : Bool) (x y : Received) → x .domain .part ≡ d .part → y .domain .part ≡ d .part → pick t x y .domain .part ≡ d .part
+  received-part true x y p q = p
+  received-part false x y p q = q
+
+  pub opened-keeps : (slot : ℕ) (crc : Bool) → domainOpened d slot crc .domain .part ≡ d .part
+  unfolding domainOpened
+  opened-keeps slot crc = done-part (leb slot 3) _ _ refl refl
+
+  pub closed-keeps : (slot : ℕ) → domainClosed d slot .domain .part ≡ d .part
+  unfolding domainClosed
+  closed-keeps slot = closed-part (leb slot 3) _ _ refl refl
+
+  pub posted-keeps : (slot start len : ℕ) → domainPosted d slot start len .domain .part ≡ d .part
+  unfolding domainPosted
+  posted-keeps slot start len = done-part (leb slot 3) _ _ refl refl
+
+  pub taken-keeps : (slot : ℕ) → domainTaken d slot .domain .part ≡ d .part
+  unfolding domainTaken
+  taken-keeps slot = taken-part (leb slot 3) _ _ refl refl
+
+  pub registered-keeps : (slot key base len place rights : ℕ) → domainRegistered d slot key base len place rights .domain .part ≡ d .part
+  unfolding domainRegistered
+  registered-keeps slot key base len place rights = refl
+
+  pub dropped-keeps : (slot : ℕ) → domainDropped d slot .domain .part ≡ d .part
+  unfolding domainDropped
+  dropped-keeps slot = refl
+
+  -- ---- receive
+  applied-keeps : (slot total : ℕ) (v : Verdict) → applied d slot total v .domain .part ≡ d .part
+  unfolding applied
+  applied-keeps slot total (VerdictRefused r) = refl
+  applied-keeps slot total Nothing = refl
+  applied-keeps slot total (Write at) = refl
+  applied-keeps slot total (SendMore at opcode taken) = refl
+  applied-keeps slot total (SendLast at opcode start len NoStag) = refl
+  applied-keeps slot total (SendLast at opcode start len (Stag i stag)) = refl
+  applied-keeps slot total (Read r) = refl
+  applied-keeps slot total (Terminate layer etype code) = refl
+
+  segment-keeps : (number slot : ℕ) (input : List ℕ) (s : SegmentRead) → receivedSegment d number slot input s .domain .part ≡ d .part
+  segment-keeps number slot input (Wait n) = refl
+  segment-keeps number slot input (SegmentRefused r) = applied-keeps slot 0 (VerdictRefused r)
+  segment-keeps number slot input (Tagged total h start len) =
+      applied-keeps slot total (segmentJudged d number (streamAt d slot) input (Tagged total h start len))
+  segment-keeps number slot input (Untagged total h start len) =
+      applied-keeps slot total (segmentJudged d number (streamAt d slot) input (Untagged total h start len))
+
+  when-keeps : (number slot : ℕ) (input : List ℕ) (r : Readiness) → receivedWhen d number slot input r .domain .part ≡ d .part
+  when-keeps number slot input Ready = segment-keeps number slot input (segmentRead (streamAt d slot .crc) input)
+  when-keeps number slot input (NotReady k) = refl
+
+  pub received-keeps : (number slot : ℕ) (input : List ℕ) → domainReceived d number slot input .domain .part ≡ d .part
+  unfolding domainReceived
+  received-keeps number slot input =
+      received-part (leb slot 3) (receivedWhen d number slot input (readiness (streamAt d slot .phase))) _ (when-keeps number slot input (readiness (streamAt d slot .phase))) refl
+
+-- ---- as many bytes
+length-pick : (t : Bool) (x y l : List ℕ) → (t ≡ true → length x ≡ length l) → length y ≡ length l → length (pick t x y) ≡ length l
+length-pick true x y l p q = p refl
+length-pick false x y l p q = q
+
+placed-many : (l : List ℕ) (at : ℕ) (xs : List ℕ) → length (placed l at xs) ≡ length l
+unfolding placed fits
+placed-many l at xs = length-pick (leb (at + length xs) (length l)) _ l l (λ e. length-put l at xs (leb-true (at + length xs) (length l) e)) refl
+
+from-many : (start at : ℕ) (xs l : List ℕ) → length (placedFrom start at xs l) ≡ length l
+unfolding placedFrom
+from-many start at xs l = length-pick (leb start at) (placed l (at - start) xs) l l (λ e. placed-many l (at - start) xs) refl
+
+applied-many : (start : ℕ) (v : Verdict) (xs l : List ℕ) → length (appliedBytes start v xs l) ≡ length l
+unfolding appliedBytes
+applied-many start (VerdictRefused r) xs l = refl
+applied-many start Nothing xs l = refl
+applied-many start (Write at) xs l = from-many start at xs l
+applied-many start (SendMore at opcode taken) xs l = from-many start at xs l
+applied-many start (SendLast at opcode from len inv) xs l = from-many start at xs l
+applied-many start (Read r) xs l = refl
+applied-many start (Terminate layer etype code) xs l = refl
+
+module _ (d : Domain) (number slot : ℕ) (input l : List ℕ) where
+  segment-many : (s : SegmentRead) → length (receivedSegmentBytes d number slot input l s) ≡ length l
+  segment-many (Wait n) = refl
+  segment-many (SegmentRefused r) = refl
+  segment-many (Tagged total h start len) =
+      applied-many (d .part .start) (segmentJudged d number (streamAt d slot) input (Tagged total h start len)) (part input start len) l
+  segment-many (Untagged total h start len) =
+      applied-many (d .part .start) (segmentJudged d number (streamAt d slot) input (Untagged total h start len)) (part input start len) l
+
+  when-many : (r : Readiness) → length (receivedBytesWhen d number slot input l r) ≡ length l
+  when-many Ready = segment-many (segmentRead (streamAt d slot .crc) input)
+  when-many (NotReady k) = refl
+
+  pub received-many : length (domainReceivedBytes d number slot input l) ≡ length l
+  unfolding domainReceivedBytes
+  received-many =
+      length-pick (leb slot 3) (receivedBytesWhen d number slot input l (readiness (streamAt d slot .phase))) l l (λ e. when-many (readiness (streamAt d slot .phase))) refl

@@ -1,0 +1,69 @@
+-- `receive_owned` meets its contract: the two tests are those of `partFits`, the owner's entry and the bytes of its part are what the domain's call gives.
+use borrow.Author.Tests.{le-leb, lt-leb}
+use Rattle.rnic.specs.Rnic.{receivedOwned, receivedOwnedStore}
+use borrow.Author.Needs.{needs}
+use Rattle.rnic.proofs.receive_owned.Statement.{statement}
+use Rattle.rnic.proofs.receive_owned.Tie as tie
+
+mul-dom : tie.Need-mul-dom
+mul-dom c = search needs
+
+element-copy-out-dom : tie.Need-element-copy-out-dom
+element-copy-out-dom c = search needs
+
+cast-start : tie.Need-cast-start
+cast-start c = search needs
+
+cast-end : tie.Need-cast-end
+cast-end c = search needs
+
+part-receive-start : tie.Need-part-receive-start
+part-receive-start c = search needs
+
+part-receive-end : tie.Need-part-receive-end
+part-receive-end c = search needs
+
+receive-requires : tie.Need-receive-requires
+receive-requires c κs = search needs
+
+mul-changed : tie.Need-mul-changed
+mul-changed c = search needs
+
+element-set-from-changed : tie.Need-element-set-from-changed
+element-set-from-changed c = search needs
+
+same-length : tie.Need-same-length
+same-length c = search needs
+
+returns : tie.Need-returns
+unfolding receivedOwned receivedOwnedStore
+returns c = (
+  simp (le-leb _ _ (c .before .before .before .before .before .before .if1 .taken), le-leb _ _ (c .before .before .before .before .before .if2 .taken), c .before .before .before .receive .ensures .0),
+  simp (le-leb _ _ (c .before .before .before .before .before .before .if1 .taken), le-leb _ _ (c .before .before .before .before .before .if2 .taken), c .before .before .before .receive .ensures .1),
+)
+
+returns-2 : tie.Need-returns-2
+unfolding receivedOwned receivedOwnedStore
+returns-2 c = (simp (le-leb _ _ (c .before .if1 .taken), lt-leb _ _ (c .if2 .left)), simp (le-leb _ _ (c .before .if1 .taken), lt-leb _ _ (c .if2 .left)))
+
+returns-3 : tie.Need-returns-3
+unfolding receivedOwned receivedOwnedStore
+returns-3 c = (simp (lt-leb _ _ (c .if1 .left)), simp (lt-leb _ _ (c .if1 .left)))
+
+pub receive-owned-spec : {M : Type 1} → statement M
+receive-owned-spec =
+    tie.close
+    (tie.spec
+    mul-dom
+    element-copy-out-dom
+    cast-start
+    cast-end
+    part-receive-start
+    part-receive-end
+    receive-requires
+    mul-changed
+    element-set-from-changed
+    same-length
+    returns
+    returns-2
+    returns-3)

@@ -1,0 +1,2 @@
+pub mod Rnic
+pub mod Book
