@@ -5,3 +5,4 @@ pub mod Kept
 pub mod Order
 pub mod Parts
 pub mod Possible
+pub mod Reachable

@@ -1,0 +1,535 @@
+-- What every state that a run reaches has: each live window and each waiting buffer lies in its domain's part. So the guards of
+-- the definitions, which only a malformed state could trip, never fire there, and the paper's rule is the whole truth.
+use Prim.Native.Nat.{ℕ, zero, suc, _+_, _-_, _/_, _%_, _≤_, _<_}
+use mathlib.Core.Path.{_≡_, refl, sym, ap, subst, _∙_}
+use mathlib.Core.Bool.{Bool, true, false}
+use mathlib.Core.List.{List, [], _∷_, _++_}
+use native.Mathlib.Omega.{arith}
+use native.Mathlib.Decide.{ℕ-discrete as decEq}
+use lib.ListN.{length, getD, set, drop, replicate, length-set, length-append, length-drop, getD-replicate}
+use lib.Seq.{getD-set-same, getD-set-other}
+use lib.Dec.{leb, ltb, eqb}
+use borrow.Author.Tests.{leb-true, le-leb, ltb-true, eqb-true}
+use borrow.Rule.Slice.PartMut.{mid-len}
+use Rattle.wire.specs.Wire.{pick, both, part, put}
+use Rattle.wire.proofs.Laws.{length-part}
+use Rattle.ddp.specs.Part.{inPart}
+use Rattle.ddp.specs.Window.{noWindow, windowAt, found, spanned}
+use Rattle.ddp.specs.Buffer.{noBuffer, posted, poppedOf}
+use Rattle.ddp.specs.Tagged.{taggedOf}
+use Rattle.ddp.specs.Untagged.{untaggedIn, untaggedOf}
+use Rattle.ddp.specs.Place.{fits, placed}
+use Rattle.ddp.specs.Refusal.{invalidMsn, noBufferWaits, invalidMo, messageTooLong}
+use Rattle.ddp.specs.Segment.{segmentRead}
+use Rattle.ddp.specs.declared.part.Part.{Part}
+use Rattle.ddp.specs.declared.buffer.Buffer.{Buffer}
+use Rattle.ddp.specs.declared.buffer.Buffers.{Buffers}
+use Rattle.ddp.specs.declared.buffer.Posted.{Posted}
+use Rattle.ddp.specs.declared.header.UntaggedHeader.{UntaggedHeader}
+use Rattle.ddp.specs.declared.segment.SegmentRead.{SegmentRead}
+use Rattle.ddp.specs.declared.segment.SegmentRead.the-variants.{Wait, Refused as SegmentRefused, Tagged as TaggedSegment, Untagged as UntaggedSegment}
+use Rattle.ddp.specs.declared.tagged.Tagged.{Tagged}
+use Rattle.ddp.specs.declared.tagged.Tagged.the-variants.{Nowhere, At as TaggedAt, Refused as TaggedRefused}
+use Rattle.ddp.specs.declared.untagged.Untagged.{Untagged}
+use Rattle.ddp.specs.declared.untagged.Untagged.the-variants.{At as UntaggedAt, Refused as UntaggedRefused}
+use Rattle.ddp.specs.declared.window.Window.{Window}
+use Rattle.ddp.specs.declared.window.Found.{Found}
+use Rattle.ddp.specs.declared.window.Found.the-variants.{Slot, Foreign, Missing}
+use Rattle.ddp.specs.declared.window.Span.{Span}
+use Rattle.ddp.specs.declared.window.Span.the-variants.{Inside, Wrap, Outside}
+use Rattle.ddp.proofs.Inside.{Lies, WindowsIn, BuffersIn, registered-in, dropped-in, tagged-in, posted-in, popped-in}
+use Rattle.rdmap.specs.Message.{opcodeOf, controlled, after, mayWrite, mayRead, writeVerdict, fitsQueue, takesStag, invalidated, sendVerdict, sourceIn, sourceOf, readVerdict, terminateVerdict, messageVerdict, queuesOf, untaggedVerdict}
+use Rattle.rdmap.specs.Read.{requestAt}
+use Rattle.rdmap.specs.Refusal.{noWriteRight, noReadRight, malformed}
+use Rattle.rdmap.specs.Stream.{noBuffers, closedStream, isClosed, readiness, opened, closed, postedWhen, postedOn, takenWhen, takenFrom}
+use Rattle.rdmap.specs.declared.message.Control.{Control}
+use Rattle.rdmap.specs.declared.message.Control.the-variants.{Good, Refused as ControlRefused}
+use Rattle.rdmap.specs.declared.message.Invalidate.the-variants.{NoStag, Stag}
+use Rattle.rdmap.specs.declared.message.Verdict.{Verdict}
+use Rattle.rdmap.specs.declared.message.Verdict.the-variants.{Refused as VerdictRefused, Nothing, Write, SendMore, SendLast, Read, Terminate}
+use Rattle.rdmap.specs.declared.read.ReadRequest.{ReadRequest}
+use Rattle.rdmap.specs.declared.stream.Readiness.{Readiness}
+use Rattle.rdmap.specs.declared.stream.Readiness.the-variants.{Ready, NotReady}
+use Rattle.rdmap.specs.declared.stream.Stream.{Stream}
+use Rattle.rdmap.specs.declared.stream.StreamDone.{StreamDone}
+use Rattle.rdmap.specs.declared.stream.StreamClosed.{StreamClosed}
+use Rattle.rdmap.specs.declared.stream.StreamTaken.{StreamTaken}
+use Rattle.domain.specs.Domain.{noStream, streamAt, withStream, withWindows, newDomain, domainOpened, domainClosed, domainPosted, domainTaken, domainRegistered, domainDropped, domainReceived, domainReceivedBytes, applied, appliedBytes, placedFrom, segmentJudged, receivedSegment, receivedSegmentBytes, receivedWhen, receivedBytesWhen}
+use Rattle.domain.specs.declared.Domain.{Domain}
+use Rattle.domain.specs.declared.DomainDone.{DomainDone}
+use Rattle.domain.specs.declared.DomainClosed.{DomainClosed}
+use Rattle.domain.specs.declared.DomainTaken.{DomainTaken}
+use Rattle.domain.specs.declared.Received.{Received}
+use Rattle.domain.proofs.Inside.{inside}
+use Rattle.rnic.specs.Rnic.{domainAt, bytesOf, partFits}
+use Rattle.rnic.specs.Book.{Call, Answer, View, Seen, Opening, owner, heard, book, startOf, endOf}
+use Rattle.rnic.proofs.Calls.{World, Step, Run, Opened, view}
+use Rattle.rnic.specs.Book.Call.{openStream, closeStream, register, dropWindow, post, receive, takeRead, live, free}
+use Rattle.rnic.proofs.Calls.Run.{stop, next}
+use Rattle.rnic.proofs.Isolation.{Fit, part-fits, step-fit, own, alien, run-fit, opened-fit, opened-view}
+
+-- the buffers that wait, of eight entries, lie in a part
+pub record Waits (p : Part) (bs : Buffers) : Type 0 where
+  pub long : length (bs .entries) ≡ 8
+  pub few : bs .count ≤ 8
+  pub inside : BuffersIn p bs
+
+-- each live window of a domain, and each waiting buffer of each of its four streams, lies in its part
+pub record Sound (d : Domain) : Type 0 where
+  pub windowed : WindowsIn (d .part) (d .windows)
+  pub four : length (d .streams) ≡ 4
+  pub waiting : (i : ℕ) → i < 4 → Waits (d .part) (streamAt d i .buffers)
+
+-- ---- the buffers of a stream
+module _ (p : Part) where
+  none-waits : Waits p noBuffers
+  none-waits = record { long = refl; few = omega arith; inside = λ i l. absurd (omega arith) }
+
+  abbrev Sized : Buffers → Type 0
+  Sized bs = (length (bs .entries) ≡ 8) × (bs .count ≤ 8)
+
+  posted-when : (t : Bool) (x y : Posted) → (t ≡ true → Sized (x .buffers)) → Sized (y .buffers) → Sized (pick t x y .buffers)
+  posted-when true x y f g = f refl
+  posted-when false x y f g = g
+
+  posted-sized : (bs : Buffers) (start len : ℕ) → Sized bs → Sized (posted bs p start len .buffers)
+  unfolding posted
+  posted-sized bs start len h =
+      posted-when (inPart p start len) _ _
+      (λ e. posted-when (ltb (bs .count) 8) _ _ (λ f. (length-set (bs .entries) (bs .count) (record { start = start; len = len }) ∙ h .0, omega (arith, ltb-true (bs .count) 8 f))) h)
+      h
+
+  posted-waits : (bs : Buffers) (start len : ℕ) → Waits p bs → Waits p (posted bs p start len .buffers)
+  posted-waits bs start len w =
+      let z = posted-sized bs start len (w .long, w .few) in
+      record { long = z .0; few = z .1; inside = posted-in p bs start len (w .long) (w .inside) }
+
+  popped-sized : (bs : Buffers) → Sized bs → Sized (poppedOf bs)
+  unfolding poppedOf
+  popped-sized bs h = go (eqb (bs .count) 0)
+    where
+      go : (t : Bool) → Sized (pick t bs (record { count = bs .count - 1; entries = drop 1 (bs .entries) ++ (noBuffer ∷ []) }))
+      go true = h
+      go false = (simp (length-append, length-drop) (omega (arith, h .0)), omega (arith, h .1))
+
+  popped-waits : (bs : Buffers) → Waits p bs → Waits p (poppedOf bs)
+  popped-waits bs w =
+      let z = popped-sized bs (w .long, w .few) in
+      record { long = z .0; few = z .1; inside = popped-in p bs (omega arith) (w .inside) }
+
+  -- ---- a stream's calls
+  done-waits : (t : Bool) (x y : StreamDone) → Waits p (x .stream .buffers) → Waits p (y .stream .buffers) → Waits p (pick t x y .stream .buffers)
+  done-waits true x y f g = f
+  done-waits false x y f g = g
+
+  close-waits : (t : Bool) (x y : StreamClosed) → Waits p (x .stream .buffers) → Waits p (y .stream .buffers) → Waits p (pick t x y .stream .buffers)
+  close-waits true x y f g = f
+  close-waits false x y f g = g
+
+  take-waits : (t : Bool) (x y : StreamTaken) → Waits p (x .stream .buffers) → Waits p (y .stream .buffers) → Waits p (pick t x y .stream .buffers)
+  take-waits true x y f g = f
+  take-waits false x y f g = g
+
+  module _ (s : Stream) (w : Waits p (s .buffers)) where
+    opened-waits : (crc : Bool) → Waits p (opened s crc .stream .buffers)
+    unfolding opened
+    opened-waits crc = done-waits (isClosed (s .phase)) _ _ none-waits w
+
+    closed-waits : Waits p (closed s .stream .buffers)
+    unfolding closed
+    closed-waits = close-waits (isClosed (s .phase)) _ _ w none-waits
+
+    posted-on-when : (start len : ℕ) (r : Readiness) → Waits p (postedWhen s p start len r .stream .buffers)
+    posted-on-when start len Ready = posted-waits (s .buffers) start len w
+    posted-on-when start len (NotReady k) = w
+
+    posted-on-waits : (start len : ℕ) → Waits p (postedOn s p start len .stream .buffers)
+    unfolding postedOn
+    posted-on-waits start len = posted-on-when start len (readiness (s .phase))
+
+    taken-when-waits : (r : Readiness) → Waits p (takenWhen s r .stream .buffers)
+    taken-when-waits Ready = take-waits (eqb (s .reads .count) 0) _ _ w w
+    taken-when-waits (NotReady k) = w
+
+    taken-waits : Waits p (takenFrom s .stream .buffers)
+    unfolding takenFrom
+    taken-waits = taken-when-waits (readiness (s .phase))
+
+-- ---- a new domain
+none-live : (n i : ℕ) → windowAt (replicate n noWindow) i ≡ noWindow
+none-live zero i = refl
+none-live (suc n) zero = refl
+none-live (suc n) (suc i) = none-live n i
+
+pub new-sound : (start end : ℕ) → Sound (newDomain start end)
+new-sound start end = record {
+  windowed = λ i l. absurd (let no : true ≡ false = sym l ∙ ap (λ (x : Window). x .live) (none-live 16 i) in let z : _≡_ {A = ℕ} 0 1 = cc in omega arith);
+  four = refl;
+  waiting = λ i h. subst (λ (s : Stream). Waits (record { start = start; end = end }) (s .buffers)) (sym (getD-replicate 4 i closedStream noStream h)) (none-waits (record { start = start; end = end }));
+}
+
+-- ---- one entry changed
+with-stream : (d : Domain) (slot : ℕ) (s : Stream) → Sound d → slot < 4 → Waits (d .part) (s .buffers) → Sound (withStream d slot s)
+with-stream d slot s k h w = record {
+  windowed = k .windowed;
+  four = length-set (d .streams) slot s ∙ k .four;
+  waiting = λ i l. go i l (decEq i slot);
+}
+  where
+    go : (i : ℕ) → i < 4 → Dec (i ≡ slot) → Waits (d .part) (getD (set (d .streams) slot s) i noStream .buffers)
+    go i l (no e) = subst (λ (x : Stream). Waits (d .part) (x .buffers)) (sym (getD-set-other (d .streams) slot i s noStream e)) (k .waiting i l)
+    go i l (yes e) =
+        subst (λ (n : ℕ). Waits (d .part) (getD (set (d .streams) slot s) n noStream .buffers)) (sym e)
+        (subst (λ (x : Stream). Waits (d .part) (x .buffers)) (sym (getD-set-same (d .streams) slot s noStream (omega (arith, k .four)))) w)
+
+with-windows : (d : Domain) (ws : List Window) → Sound d → WindowsIn (d .part) ws → Sound (withWindows d ws)
+with-windows d ws k all = record { windowed = all; four = k .four; waiting = k .waiting }
+
+slot-lt : (slot : ℕ) → leb slot 3 ≡ true → slot < 4
+slot-lt slot e = omega (arith, leb-true slot 3 e)
+
+-- ---- each step of a domain keeps it
+done-sound : (t : Bool) (x y : DomainDone) → (t ≡ true → Sound (x .domain)) → Sound (y .domain) → Sound (pick t x y .domain)
+done-sound true x y f g = f refl
+done-sound false x y f g = g
+
+closed-pick : (t : Bool) (x y : DomainClosed) → (t ≡ true → Sound (x .domain)) → Sound (y .domain) → Sound (pick t x y .domain)
+closed-pick true x y f g = f refl
+closed-pick false x y f g = g
+
+taken-pick : (t : Bool) (x y : DomainTaken) → (t ≡ true → Sound (x .domain)) → Sound (y .domain) → Sound (pick t x y .domain)
+taken-pick true x y f g = f refl
+taken-pick false x y f g = g
+
+received-pick : (t : Bool) (x y : Received) → (t ≡ true → Sound (x .domain)) → Sound (y .domain) → Sound (pick t x y .domain)
+received-pick true x y f g = f refl
+received-pick false x y f g = g
+
+module _ (d : Domain) (k : Sound d) where
+  pub opened-sound : (slot : ℕ) (crc : Bool) → Sound (domainOpened d slot crc .domain)
+  unfolding domainOpened
+  opened-sound slot crc =
+      done-sound (leb slot 3) _ _ (λ e. with-stream d slot _ k (slot-lt slot e) (opened-waits (d .part) (streamAt d slot) (k .waiting slot (slot-lt slot e)) crc)) k
+
+  pub closed-sound : (slot : ℕ) → Sound (domainClosed d slot .domain)
+  unfolding domainClosed
+  closed-sound slot =
+      closed-pick (leb slot 3) _ _ (λ e. with-stream d slot _ k (slot-lt slot e) (closed-waits (d .part) (streamAt d slot) (k .waiting slot (slot-lt slot e)))) k
+
+  pub posted-sound : (slot start len : ℕ) → Sound (domainPosted d slot start len .domain)
+  unfolding domainPosted
+  posted-sound slot start len =
+      done-sound (leb slot 3) _ _ (λ e. with-stream d slot _ k (slot-lt slot e) (posted-on-waits (d .part) (streamAt d slot) (k .waiting slot (slot-lt slot e)) start len)) k
+
+  pub taken-sound : (slot : ℕ) → Sound (domainTaken d slot .domain)
+  unfolding domainTaken
+  taken-sound slot =
+      taken-pick (leb slot 3) _ _ (λ e. with-stream d slot _ k (slot-lt slot e) (taken-waits (d .part) (streamAt d slot) (k .waiting slot (slot-lt slot e)))) k
+
+  pub registered-sound : (slot key base len place rights : ℕ) → Sound (domainRegistered d slot key base len place rights .domain)
+  unfolding domainRegistered
+  registered-sound slot key base len place rights =
+      with-windows d _ k (registered-in (d .part) (d .windows) slot key base len place rights (k .windowed))
+
+  pub dropped-sound : (slot : ℕ) → Sound (domainDropped d slot .domain)
+  unfolding domainDropped
+  dropped-sound slot = with-windows d _ k (dropped-in (d .part) (d .windows) slot (k .windowed))
+
+  -- ---- receive
+  applied-sound : (slot total : ℕ) → slot < 4 → (v : Verdict) → Sound (applied d slot total v .domain)
+  unfolding applied
+  applied-sound slot total h (VerdictRefused r) = with-stream d slot _ k h (k .waiting slot h)
+  applied-sound slot total h Nothing = k
+  applied-sound slot total h (Write at) = k
+  applied-sound slot total h (SendMore at opcode taken) = with-stream d slot _ k h (k .waiting slot h)
+  applied-sound slot total h (SendLast at opcode start len NoStag) =
+      with-stream d slot _ k h (popped-waits (d .part) (streamAt d slot .buffers) (k .waiting slot h))
+  applied-sound slot total h (SendLast at opcode start len (Stag i stag)) =
+      with-windows (withStream d slot _) _ (with-stream d slot _ k h (popped-waits (d .part) (streamAt d slot .buffers) (k .waiting slot h)))
+      (dropped-in (d .part) (d .windows) i (k .windowed))
+  applied-sound slot total h (Read r) = with-stream d slot _ k h (k .waiting slot h)
+  applied-sound slot total h (Terminate layer etype code) = with-stream d slot _ k h (k .waiting slot h)
+
+  segment-sound : (number slot : ℕ) → slot < 4 → (input : List ℕ) (s : SegmentRead) → Sound (receivedSegment d number slot input s .domain)
+  segment-sound number slot h input (Wait n) = k
+  segment-sound number slot h input (SegmentRefused r) = applied-sound slot 0 h (VerdictRefused r)
+  segment-sound number slot h input (TaggedSegment total t start len) =
+      applied-sound slot total h (segmentJudged d number (streamAt d slot) input (TaggedSegment total t start len))
+  segment-sound number slot h input (UntaggedSegment total t start len) =
+      applied-sound slot total h (segmentJudged d number (streamAt d slot) input (UntaggedSegment total t start len))
+
+  when-sound : (number slot : ℕ) → slot < 4 → (input : List ℕ) (r : Readiness) → Sound (receivedWhen d number slot input r .domain)
+  when-sound number slot h input Ready = segment-sound number slot h input (segmentRead (streamAt d slot .crc) input)
+  when-sound number slot h input (NotReady n) = k
+
+  pub received-sound : (number slot : ℕ) (input : List ℕ) → Sound (domainReceived d number slot input .domain)
+  unfolding domainReceived
+  received-sound number slot input =
+      received-pick (leb slot 3) (receivedWhen d number slot input (readiness (streamAt d slot .phase))) _
+      (λ e. when-sound number slot (slot-lt slot e) input (readiness (streamAt d slot .phase))) k
+
+-- ---- over a run
+seen-sound : (t : Bool) (x y : Seen) → Sound (x .after .dom) → Sound (y .after .dom) → Sound (pick t x y .after .dom)
+seen-sound true x y f g = f
+seen-sound false x y f g = g
+
+book-sound : (A : ℕ) (v : View) → Sound (v .dom) → (c : Call) → Sound (book A v c .after .dom)
+book-sound A v k (openStream n crc) = opened-sound (v .dom) k (n % 4) crc
+book-sound A v k (closeStream n) = closed-sound (v .dom) k (n % 4)
+book-sound A v k (register w key base len place rights) = registered-sound (v .dom) k (w % 16) key base len place rights
+book-sound A v k (dropWindow w) = dropped-sound (v .dom) k (w % 16)
+book-sound A v k (post n start len) = posted-sound (v .dom) k (n % 4) start len
+book-sound A v k (receive n input size) = seen-sound (eqb size (v .size)) (heard A v n input) _ (received-sound (v .dom) k A (n % 4) input) k
+book-sound A v k (takeRead n) = taken-sound (v .dom) k (n % 4)
+book-sound A v k (live d) = k
+book-sound A v k (free d) = k
+
+-- each domain of a world
+abbrev pub AllSound : World → Type 0
+AllSound w = (A : ℕ) → A < 4 → Sound (domainAt (w .dev) A)
+
+pub step-sound : (w : World) (c : Call) (a : Answer) (w₁ : World) → Fit w → AllSound w → Step w c a w₁ → AllSound w₁
+step-sound w c a w₁ f k s A hA = go (decEq (owner c) A)
+  where
+    go : Dec (owner c ≡ A) → Sound (domainAt (w₁ .dev) A)
+    go (yes o) = subst Sound (sym (ap (λ (x : Seen). x .after .dom) (own A hA w c a w₁ f o s))) (book-sound A (view A w) (k A hA) c)
+    go (no o) = subst Sound (sym (ap (λ (x : View). x .dom) (alien A hA w c a w₁ f o s))) (k A hA)
+
+pub run-sound : {w w₁ : World} {cs : List Call} → Fit w → AllSound w → Run w cs w₁ → AllSound w₁
+run-sound f k stop = k
+run-sound {w = w} f k (next {c = c} a w₁ s r) = run-sound (step-fit w a w₁ c f s) (step-sound w c a w₁ f k s) r
+
+pub opening-sound : (o : Opening) (mem : List ℕ) (w : World) → Opened o mem w → AllSound w
+opening-sound o mem w s A hA = subst Sound (sym (ap (λ (x : View). x .dom) (opened-view o mem w s A hA))) (new-sound (startOf A o) (endOf A o))
+
+-- every domain of a world that a run from an opening reaches
+pub reached-sound : (o : Opening) (mem : List ℕ) {w w₁ : World} {cs : List Call} → Opened o mem w → Run w cs w₁ → AllSound w₁
+reached-sound o mem {w = w} s r = run-sound (opened-fit o mem w s) (opening-sound o mem w s) r
+
+-- ---- where a payload goes
+
+-- a verdict that places n bytes places them in the part
+abbrev pub Lands : Part → Verdict → ℕ → Type 0
+Lands p (VerdictRefused r) n = Unit {0}
+Lands p Nothing n = Unit {0}
+Lands p (Write at) n = Lies p at n
+Lands p (SendMore at opcode taken) n = Lies p at n
+Lands p (SendLast at opcode start len inv) n = Lies p at n
+Lands p (Read r) n = Unit {0}
+Lands p (Terminate layer etype code) n = Unit {0}
+
+-- the paper's rule, with no guard: "payload byte i goes to place + (TO − base) + i", "to buffer start + MO + i"
+abbrev pub ruled : ℕ → Verdict → List ℕ → List ℕ → List ℕ
+ruled start (VerdictRefused r) payload bytes = bytes
+ruled start Nothing payload bytes = bytes
+ruled start (Write at) payload bytes = put bytes (at - start) payload
+ruled start (SendMore at opcode taken) payload bytes = put bytes (at - start) payload
+ruled start (SendLast at opcode from len inv) payload bytes = put bytes (at - start) payload
+ruled start (Read r) payload bytes = bytes
+ruled start (Terminate layer etype code) payload bytes = bytes
+
+abbrev pub payloadOf : List ℕ → SegmentRead → List ℕ
+payloadOf input (Wait n) = []
+payloadOf input (SegmentRefused r) = []
+payloadOf input (TaggedSegment total h start len) = part input start len
+payloadOf input (UntaggedSegment total h start len) = part input start len
+
+-- what lies in the part is placed whole
+pub placed-whole :
+    (p : Part) (at : ℕ) (payload bytes : List ℕ) → length bytes ≡ p .end - p .start → Lies p at (length payload) →
+    placedFrom (p .start) at payload bytes ≡ put bytes (at - p .start) payload
+unfolding placedFrom placed fits
+placed-whole p at payload bytes e l =
+    simp (le-leb (p .start) at (l .0), le-leb (at - p .start + length payload) (length bytes) (omega (arith, l .0, l .1)))
+
+applied-whole :
+    (p : Part) (v : Verdict) (payload bytes : List ℕ) → length bytes ≡ p .end - p .start → Lands p v (length payload) →
+    appliedBytes (p .start) v payload bytes ≡ ruled (p .start) v payload bytes
+unfolding appliedBytes
+applied-whole p (VerdictRefused r) payload bytes e l = refl
+applied-whole p Nothing payload bytes e l = refl
+applied-whole p (Write at) payload bytes e l = placed-whole p at payload bytes e l
+applied-whole p (SendMore at opcode taken) payload bytes e l = placed-whole p at payload bytes e l
+applied-whole p (SendLast at opcode start len inv) payload bytes e l = placed-whole p at payload bytes e l
+applied-whole p (Read r) payload bytes e l = refl
+applied-whole p (Terminate layer etype code) payload bytes e l = refl
+
+-- ---- a verdict, by the tests that give it
+module _ (p : Part) (n : ℕ) where
+  pick-lands : (t : Bool) (x y : Verdict) → Lands p x n → Lands p y n → Lands p (pick t x y) n
+  pick-lands true x y f g = f
+  pick-lands false x y f g = g
+
+  after-lands : (c : Control) (v : Verdict) → Lands p v n → Lands p (after c v) n
+  after-lands Good v l = l
+  after-lands (ControlRefused r) v l = tt
+
+  write-lands :
+      (ws : List Window) (number stag to control : ℕ) → WindowsIn p ws →
+      (t : Tagged) → taggedOf ws number stag to n ≡ t → Lands p (writeVerdict ws control t) n
+  write-lands ws number stag to control all (TaggedRefused r) e = tt
+  write-lands ws number stag to control all Nowhere e = after-lands (controlled control (eqb (opcodeOf control) 0)) Nothing tt
+  write-lands ws number stag to control all (TaggedAt slot place) e =
+      after-lands (controlled control (eqb (opcodeOf control) 0)) (pick (mayWrite (windowAt ws slot)) (Write place) (VerdictRefused noWriteRight))
+      (pick-lands (mayWrite (windowAt ws slot)) (Write place) (VerdictRefused noWriteRight) (tagged-in p ws number stag to n slot place all e) tt)
+
+  invalidated-lands : (b : Buffer) (opcode start end stag : ℕ) → Lies p (b .start + start) n → (f : Found) → Lands p (invalidated b opcode start end stag f) n
+  invalidated-lands b opcode start end stag l Foreign = tt
+  invalidated-lands b opcode start end stag l Missing = tt
+  invalidated-lands b opcode start end stag l (Slot slot) = l
+
+  send-lands : (ws : List Window) (number : ℕ) (b : Buffer) (h : UntaggedHeader) (start end : ℕ) → Lies p (b .start + start) n → Lands p (sendVerdict ws number b h start end) n
+  unfolding sendVerdict
+  send-lands ws number b h start end l =
+      pick-lands (h .last)
+      (pick (takesStag (opcodeOf (h .control)))
+      (invalidated b (opcodeOf (h .control)) start end (h .stag) (found ws number (h .stag)))
+      (SendLast (b .start + start) (opcodeOf (h .control)) (b .start) end NoStag))
+      (SendMore (b .start + start) (opcodeOf (h .control)) end)
+      (pick-lands (takesStag (opcodeOf (h .control)))
+      (invalidated b (opcodeOf (h .control)) start end (h .stag) (found ws number (h .stag)))
+      (SendLast (b .start + start) (opcodeOf (h .control)) (b .start) end NoStag)
+      (invalidated-lands b (opcodeOf (h .control)) start end (h .stag) l (found ws number (h .stag))) l)
+      l
+
+  source-in-lands : (w : Window) (r : ReadRequest) (s : Span) → Lands p (sourceIn w r s) n
+  source-in-lands w r Wrap = tt
+  source-in-lands w r Outside = tt
+  source-in-lands w r (Inside place) = pick-lands (mayRead w) (Read r) (VerdictRefused noReadRight) tt tt
+
+  source-lands : (ws : List Window) (r : ReadRequest) (f : Found) → Lands p (sourceOf ws r f) n
+  source-lands ws r Foreign = tt
+  source-lands ws r Missing = tt
+  source-lands ws r (Slot slot) = source-in-lands (windowAt ws slot) r (spanned (windowAt ws slot) (r .«source_to») (r .size))
+
+  read-lands : (ws : List Window) (number : ℕ) (last : Bool) (payload : List ℕ) → Lands p (readVerdict ws number last payload) n
+  unfolding readVerdict
+  read-lands ws number last payload =
+      pick-lands (both last (eqb (length payload) 28))
+      (sourceOf ws (requestAt payload) (found ws number (requestAt payload .«source_stag»))) (VerdictRefused malformed)
+      (source-lands ws (requestAt payload) (found ws number (requestAt payload .«source_stag»))) tt
+
+  terminate-lands : (last : Bool) (payload : List ℕ) → Lands p (terminateVerdict last payload) n
+  unfolding terminateVerdict
+  terminate-lands last payload =
+      pick-lands (both last (leb 4 (length payload)))
+      (Terminate (getD payload 0 0 / 16) (getD payload 0 0 % 16) (getD payload 1 0)) (VerdictRefused malformed) tt tt
+
+  -- a segment that queue 0 takes: a buffer waits, and the payload ends within it
+  untagged-fits :
+      (s : Stream) (msn mo start end : ℕ) → untaggedOf (queuesOf s) 0 msn mo n ≡ UntaggedAt start end →
+      (0 < s .buffers .count) × (start + n ≤ getD (s .buffers .entries) 0 noBuffer .len)
+  unfolding untaggedOf untaggedIn queuesOf
+  untagged-fits s msn mo start end e =
+      go (eqb msn (s .«send_msn»)) (ltb 0 (s .buffers .count)) refl (eqb mo (s .taken)) (leb (mo + n) (getD (s .buffers .entries) 0 noBuffer .len)) refl e
+    where
+      go :
+          (a b : Bool) → ltb 0 (s .buffers .count) ≡ b →
+          (c t : Bool) → leb (mo + n) (getD (s .buffers .entries) 0 noBuffer .len) ≡ t →
+          pick a (pick b (pick c (pick t (UntaggedAt mo (mo + n)) (UntaggedRefused messageTooLong)) (UntaggedRefused invalidMo)) (UntaggedRefused noBufferWaits)) (UntaggedRefused invalidMsn) ≡ UntaggedAt start end →
+          (0 < s .buffers .count) × (start + n ≤ getD (s .buffers .entries) 0 noBuffer .len)
+      go false b f c t g e = absurd (let no : _≡_ {A = ℕ} 0 1 = cc in omega arith)
+      go true false f c t g e = absurd (let no : _≡_ {A = ℕ} 0 1 = cc in omega arith)
+      go true true f false t g e = absurd (let no : _≡_ {A = ℕ} 0 1 = cc in omega arith)
+      go true true f true false g e = absurd (let no : _≡_ {A = ℕ} 0 1 = cc in omega arith)
+      go true true f true true g e =
+          let same : mo ≡ start = cc in
+          (ltb-true 0 (s .buffers .count) f, omega (arith, leb-true (mo + n) (getD (s .buffers .entries) 0 noBuffer .len) g))
+
+  module _ (ws : List Window) (number : ℕ) (s : Stream) (k : BuffersIn p (s .buffers)) (h : UntaggedHeader) (payload : List ℕ) where
+    message-lands :
+        (start end : ℕ) → untaggedOf (queuesOf s) (h .qn) (h .msn) (h .mo) n ≡ UntaggedAt start end →
+        Lands p (messageVerdict ws number s h start end payload) n
+    unfolding messageVerdict
+    message-lands start end e = go (eqb (h .qn) 0) refl
+      where
+        first : eqb (h .qn) 0 ≡ true → Lies p (getD (s .buffers .entries) 0 noBuffer .start + start) n
+        first q =
+            let z = untagged-fits s (h .msn) (h .mo) start end (subst (λ (m : ℕ). untaggedOf (queuesOf s) m (h .msn) (h .mo) n ≡ UntaggedAt start end) (eqb-true (h .qn) 0 q) e) in
+            let b = k 0 (z .0) in
+            (omega (arith, b .0), omega (arith, b .1, z .1))
+
+        go :
+            (t : Bool) → eqb (h .qn) 0 ≡ t →
+            Lands p
+            (pick t (sendVerdict ws number (getD (s .buffers .entries) 0 noBuffer) h start end)
+            (pick (eqb (h .qn) 1) (readVerdict ws number (h .last) payload) (terminateVerdict (h .last) payload)))
+            n
+        go true q = send-lands ws number (getD (s .buffers .entries) 0 noBuffer) h start end (first q)
+        go false q =
+            pick-lands (eqb (h .qn) 1) (readVerdict ws number (h .last) payload) (terminateVerdict (h .last) payload)
+            (read-lands ws number (h .last) payload) (terminate-lands (h .last) payload)
+
+    untagged-lands : (u : Untagged) → untaggedOf (queuesOf s) (h .qn) (h .msn) (h .mo) n ≡ u → Lands p (untaggedVerdict ws number s h payload u) n
+    untagged-lands (UntaggedRefused r) e = tt
+    untagged-lands (UntaggedAt start end) e =
+        after-lands (controlled (h .control) (fitsQueue (h .qn) (s .opcode) (opcodeOf (h .control)))) (messageVerdict ws number s h start end payload)
+        (message-lands start end e)
+
+-- in a sound domain a segment that was read is judged to go into the part, or nowhere
+module _ (d : Domain) (k : Sound d) (number slot : ℕ) (h : slot < 4) (input : List ℕ) where
+  pub judged-lands :
+      (s : SegmentRead) → s ≡ segmentRead (streamAt d slot .crc) input →
+      Lands (d .part) (segmentJudged d number (streamAt d slot) input s) (length (payloadOf input s))
+  judged-lands (Wait n) e = tt
+  judged-lands (SegmentRefused r) e = tt
+  judged-lands (TaggedSegment total t start len) e =
+      subst (Lands (d .part) (writeVerdict (d .windows) (t .control) (taggedOf (d .windows) number (t .stag) (t .to) len)))
+      (sym (length-part input start len (inside (streamAt d slot .crc) input (TaggedSegment total t start len) e)))
+      (write-lands (d .part) len (d .windows) number (t .stag) (t .to) (t .control) (k .windowed) (taggedOf (d .windows) number (t .stag) (t .to) len) refl)
+  judged-lands (UntaggedSegment total t start len) e =
+      untagged-lands (d .part) (length (part input start len)) (d .windows) number (streamAt d slot) (k .waiting slot h .inside) t (part input start len)
+      (untaggedOf (queuesOf (streamAt d slot)) (t .qn) (t .msn) (t .mo) (length (part input start len))) refl
+
+  module _ (bytes : List ℕ) (long : length bytes ≡ d .part .end - d .part .start) where
+    segment-whole :
+        (s : SegmentRead) → s ≡ segmentRead (streamAt d slot .crc) input →
+        receivedSegmentBytes d number slot input bytes s ≡ ruled (d .part .start) (segmentJudged d number (streamAt d slot) input s) (payloadOf input s) bytes
+    segment-whole (Wait n) e = refl
+    segment-whole (SegmentRefused r) e = refl
+    segment-whole (TaggedSegment total t start len) e =
+        applied-whole (d .part) (segmentJudged d number (streamAt d slot) input (TaggedSegment total t start len)) (part input start len) bytes long
+        (judged-lands (TaggedSegment total t start len) e)
+    segment-whole (UntaggedSegment total t start len) e =
+        applied-whole (d .part) (segmentJudged d number (streamAt d slot) input (UntaggedSegment total t start len)) (part input start len) bytes long
+        (judged-lands (UntaggedSegment total t start len) e)
+
+    -- what an open stream receives is placed by the rule alone
+    pub placed-where-judged :
+        readiness (streamAt d slot .phase) ≡ Ready →
+        domainReceivedBytes d number slot input bytes
+        ≡ ruled (d .part .start) (segmentJudged d number (streamAt d slot) input (segmentRead (streamAt d slot .crc) input)) (payloadOf input (segmentRead (streamAt d slot .crc) input)) bytes
+    unfolding domainReceivedBytes
+    placed-where-judged ready =
+        ap (λ (t : Bool). pick t (receivedBytesWhen d number slot input bytes (readiness (streamAt d slot .phase))) bytes) (le-leb slot 3 (omega arith))
+        ∙ ap (λ (r : Readiness). receivedBytesWhen d number slot input bytes r) ready
+        ∙ segment-whole (segmentRead (streamAt d slot .crc) input) refl
+
+-- ---- every world that a run from an opening reaches: no domain's part lies out of the store, and a payload that is judged to be
+-- placed lies in the part, so that what becomes of the bytes is the rule with no guard
+pub record Unguarded (w : World) (A : ℕ) : Type 0 where
+  pub sound : Sound (domainAt (w .dev) A)
+  pub in-store : partFits (domainAt (w .dev) A) (length (w .mem)) ≡ true
+  pub in-part :
+      (slot : ℕ) → slot < 4 → (input : List ℕ) (s : SegmentRead) → s ≡ segmentRead (streamAt (domainAt (w .dev) A) slot .crc) input →
+      Lands (domainAt (w .dev) A .part) (segmentJudged (domainAt (w .dev) A) A (streamAt (domainAt (w .dev) A) slot) input s) (length (payloadOf input s))
+  pub by-rule :
+      (slot : ℕ) → slot < 4 → (input : List ℕ) → readiness (streamAt (domainAt (w .dev) A) slot .phase) ≡ Ready →
+      domainReceivedBytes (domainAt (w .dev) A) A slot input (bytesOf (domainAt (w .dev) A) (w .mem))
+      ≡ ruled (domainAt (w .dev) A .part .start)
+      (segmentJudged (domainAt (w .dev) A) A (streamAt (domainAt (w .dev) A) slot) input (segmentRead (streamAt (domainAt (w .dev) A) slot .crc) input))
+      (payloadOf input (segmentRead (streamAt (domainAt (w .dev) A) slot .crc) input))
+      (bytesOf (domainAt (w .dev) A) (w .mem))
+
+pub guards-never-fire :
+    (o : Opening) (mem : List ℕ) {w w₁ : World} {cs : List Call} → Opened o mem w → Run w cs w₁ →
+    (A : ℕ) → A < 4 → Unguarded w₁ A
+guards-never-fire o mem {w = w} {w₁ = w₁} s r A hA =
+    let f : Fit w₁ = run-fit (opened-fit o mem w s) r in
+    let k : Sound (domainAt (w₁ .dev) A) = reached-sound o mem s r A hA in
+    record {
+      sound = k;
+      in-store = part-fits w₁ f A hA (length (w₁ .mem)) refl;
+      in-part = λ slot h input. judged-lands (domainAt (w₁ .dev) A) k A slot h input;
+      by-rule = λ slot h input. placed-where-judged (domainAt (w₁ .dev) A) k A slot h input (bytesOf (domainAt (w₁ .dev) A) (w₁ .mem)) (mid-len _ _ (w₁ .mem) (f .within A hA));
+    }
