@@ -8,14 +8,14 @@ ghost use Prim.Native.Nat.{_≤_};
 ghost use lib.ListN.{length};
 
 // Puts the first word of an answer, and answers the place after it.
-fn first(word: &[u8], text: &mut [u8]) -> usize
+pub fn first(word: &[u8], text: &mut [u8]) -> usize
     ensures { λ r. ⌜ r ≤ length (now (text .entry)) ⌝ }
 {
     put_word(word, text, 0)
 }
 
 // Puts a space and a number, and answers the place after them.
-fn then_number(v: u64, text: &mut [u8], at: usize) -> usize
+pub fn then_number(v: u64, text: &mut [u8], at: usize) -> usize
     requires { ⌜ at ≤ length (now text) ⌝ }
     ensures { λ r. ⌜ r ≤ length (now (text .entry)) ⌝ }
 {
@@ -24,7 +24,7 @@ fn then_number(v: u64, text: &mut [u8], at: usize) -> usize
 }
 
 // Puts a space and bytes as hex, and answers the place after them.
-fn then_hex(bytes: &[u8], text: &mut [u8], at: usize) -> usize
+pub fn then_hex(bytes: &[u8], text: &mut [u8], at: usize) -> usize
     requires { ⌜ at ≤ length (now text) ⌝ }
     ensures { λ r. ⌜ r ≤ length (now (text .entry)) ⌝ }
 {

@@ -1,9 +1,11 @@
 // The words of a line, and what the words of a command can be.
 use script::hex::Decoded;
 use script::hex::decode;
+use script::number::Number;
+use script::number::read_number;
 use script::word::Word;
 use script::word::next_word;
-use script::word::same;
+use wire::copy::same;
 ghost use mathlib.Core.Path.{_≡_};
 ghost use Prim.Native.Nat.{_≤_, min};
 ghost use lib.ListN.{length};
@@ -13,6 +15,9 @@ ghost use Rattle.replay.specs.Args.{flagOf, hexOf};
 
 // One more word than any command has.
 const MAX_WORDS: usize = 11;
+
+// As many places for numbers as the longest command, `open`, has words.
+const MAX_NUMBERS: usize = 10;
 
 // Where the first words of a line stand, each from its start up to, not with, its end, and how many
 // they are. A line with more words than a command has is as good as one with 11.
@@ -26,6 +31,12 @@ pub struct Words {
 pub struct Hex {
     pub ok: bool,
     pub count: usize,
+}
+
+// The words of a command after its name as numbers, from place 1 on, if that is what they are.
+pub struct Numbers {
+    pub ok: bool,
+    pub values: [u64; 10],
 }
 
 // One of two words, as a flag.
@@ -76,6 +87,33 @@ pub fn word(line: &[u8], words: Words, i: usize) -> &[u8] {
         }
     }
     &line[..0]
+}
+
+// Word number i of a line of `count` words as a number, 0 where the line has none there.
+fn number_at(line: &[u8], words: Words, count: usize, i: usize) -> Number {
+    if i < count {
+        return read_number(word(line, words, i));
+    }
+    Number::Value(0)
+}
+
+// The words after the first, where the line has `count` words and these are numbers.
+pub fn numbers_of(line: &[u8], words: Words, count: usize) -> Numbers {
+    let mut values = [0u64; 10];
+    if words.count != count {
+        return Numbers { ok: false, values };
+    }
+    let mut i = 1;
+    while i < MAX_NUMBERS {
+        match number_at(line, words, count, i) {
+            Number::Value(v) => {
+                values[i] = v;
+                i += 1;
+            }
+            Number::Bad => return Numbers { ok: false, values },
+        }
+    }
+    Numbers { ok: true, values }
 }
 
 // Which of two words a word is: `on` stands for true.

@@ -1,11 +1,14 @@
 // The script's bytes, read in chunks and parted into lines.
 use super::line::run_line;
+use super::state::State;
+use super::state::first_state;
 use libc::STDERR_FILENO;
 use libc::STDIN_FILENO;
+use script::word::line_end;
 ghost use mathlib.Core.Path.{_≡_};
-ghost use Prim.Native.Nat.{_+_, min};
-ghost use lib.ListN.{length, set};
+ghost use lib.ListN.{length};
 ghost use Rattle.io.specs.Counts.{Counts};
+ghost use Rattle.replay.specs.Input.{lineFits, addedCount, addedBytes};
 
 // What one read of the script gives: whether it failed, and how many bytes came, 0 at the end.
 struct Chunk {
@@ -13,51 +16,59 @@ struct Chunk {
     count: usize,
 }
 
-// Puts byte number `count` of a line into the line's buffer, and answers the count with it. Bytes
-// past the buffer's end are not kept, and the count stops at one more than the buffer holds.
-fn add_byte(line: &mut [u8], count: usize, b: u8) -> usize
-    ensures next { λ r. ⌜ r ≡ min count (length (now (line .entry))) + 1 ⌝ }
-    ensures bytes { λ r. ⌜ now (line .exit) ≡ set (now (line .entry)) count b ⌝ }
+// The state after the lines so far, and how many bytes of the next line are in.
+struct Reached {
+    state: State,
+    count: usize,
+}
+
+// Whether a line of `count` bytes and some more fits into `size` bytes.
+fn line_fits(size: usize, count: usize, more: usize) -> bool
+    ensures { λ r. ⌜ r ≡ lineFits size count more ⌝ }
 {
-    if count < line.len() {
-        line[count] = b;
-        return count + 1;
+    if count <= size {
+        return more <= size - count;
+    }
+    false
+}
+
+// Puts more bytes of a line behind its first `count`, and answers how many there are then. Where they
+// do not fit the line is too long: they are not kept, and the count is one more than the buffer holds.
+fn add_bytes(line: &mut [u8], count: usize, more: &[u8]) -> usize
+    ensures next { λ r. ⌜ r ≡ addedCount (length (now (line .entry))) count (length (now (more .entry))) ⌝ }
+    ensures bytes { λ r. ⌜ now (line .exit) ≡ addedBytes (now (line .entry)) count (now (more .entry)) ⌝ }
+{
+    if line_fits(line.len(), count, more.len()) {
+        wire::copy::copy(line, count, more);
+        return count + more.len();
     }
     line.len() + 1
 }
 
-// Takes one byte of the script, runs the line that it ends, and answers the count of the line's bytes.
-fn take_byte(
-    b: u8,
-    line: &mut [u8],
-    count: usize,
-    bytes: &mut [u8],
-    frame: &mut [u8],
-    text: &mut [u8],
-) -> usize {
-    if b == b'\n' {
-        run_line(line, count, bytes, frame, text);
-        return 0;
-    }
-    add_byte(line, count, b)
-}
-
-// Takes every byte of a chunk, and answers the count of the bytes of the line that it leaves unended.
+// Takes every byte of a chunk, and runs each line that it ends.
 fn take_chunk(
+    start: Reached,
     chunk: &[u8],
     line: &mut [u8],
-    start: usize,
     bytes: &mut [u8],
     frame: &mut [u8],
+    store: &mut [u8],
     text: &mut [u8],
-) -> usize {
-    let mut count = start;
+) -> Reached {
+    let mut state = start.state;
+    let mut count = start.count;
     let mut i = 0;
     while i < chunk.len() {
-        count = take_byte(chunk[i], line, count, bytes, frame, text);
-        i += 1;
+        let end = line_end(chunk, i);
+        count = add_bytes(line, count, &chunk[i..end]);
+        if end == chunk.len() {
+            return Reached { state, count };
+        }
+        i = end + 1;
+        state = run_line(state, line, count, bytes, frame, store, text);
+        count = 0;
     }
-    count
+    Reached { state, count }
 }
 
 // Reads some of the script into the chunk.
@@ -79,10 +90,14 @@ pub fn run_script(
     line: &mut [u8],
     bytes: &mut [u8],
     frame: &mut [u8],
+    store: &mut [u8],
     text: &mut [u8],
 ) {
     let mut turns = u64::MAX;
-    let mut count = 0;
+    let mut reached = Reached {
+        state: first_state(),
+        count: 0,
+    };
     while turns > 0 {
         let got = read_chunk(chunk);
         if got.failed {
@@ -91,18 +106,26 @@ pub fn run_script(
         }
         let n = got.count;
         if n == 0 {
-            run_rest(line, count, bytes, frame, text);
+            run_rest(reached, line, bytes, frame, store, text);
             return;
         }
-        count = take_chunk(&chunk[..n], line, count, bytes, frame, text);
+        reached = take_chunk(reached, &chunk[..n], line, bytes, frame, store, text);
         turns -= 1;
     }
 }
 
 // Runs the last line, where it lacks its newline.
-fn run_rest(line: &[u8], count: usize, bytes: &mut [u8], frame: &mut [u8], text: &mut [u8]) {
+fn run_rest(
+    reached: Reached,
+    line: &[u8],
+    bytes: &mut [u8],
+    frame: &mut [u8],
+    store: &mut [u8],
+    text: &mut [u8],
+) {
+    let count = reached.count;
     if count > 0 {
-        run_line(line, count, bytes, frame, text);
+        run_line(reached.state, line, count, bytes, frame, store, text);
     }
 }
 

@@ -1,10 +1,18 @@
 // One line of the script: which command it is, and what is answered.
 use super::answer::bad;
 use super::answer::print;
+use super::args::Words;
+use super::args::numbers_of;
 use super::args::split;
 use super::args::word;
+use super::calls;
 use super::frames;
-use script::word::same;
+use super::state::Ran;
+use super::state::State;
+use super::state::bad_line;
+use super::store;
+use super::streams;
+use wire::copy::same;
 ghost use mathlib.Core.Path.{_≡_};
 ghost use Prim.Native.Nat.{_≤_};
 ghost use lib.ListN.{length, getD};
@@ -20,42 +28,145 @@ fn is_comment(line: &[u8]) -> bool
     line[0] == b'#'
 }
 
-// Puts the answer to a line into text, and answers its length: 0 where nothing is written.
-fn answer_line(line: &[u8], bytes: &mut [u8], frame: &mut [u8], text: &mut [u8]) -> usize
-    ensures { λ r. ⌜ r ≤ length (now (text .entry)) ⌝ }
+// Runs a command that is a call with numbers alone; a line that is none is `bad`.
+fn call_line(state: State, line: &[u8], words: Words, text: &mut [u8]) -> Ran
+    ensures { λ r. ⌜ r .count ≤ length (now (text .entry)) ⌝ }
+{
+    let name = word(line, words, 0);
+    if same(name, b"open") {
+        return calls::open(state, numbers_of(line, words, 10), text);
+    }
+    if same(name, b"close") {
+        return calls::close(state, numbers_of(line, words, 2), text);
+    }
+    if same(name, b"register") {
+        return calls::register(state, numbers_of(line, words, 7), text);
+    }
+    if same(name, b"drop") {
+        return calls::drop_window(state, numbers_of(line, words, 2), text);
+    }
+    if same(name, b"post") {
+        return calls::post(state, numbers_of(line, words, 4), text);
+    }
+    if same(name, b"take") {
+        return calls::take(state, numbers_of(line, words, 2), text);
+    }
+    if same(name, b"live") {
+        return calls::live(state, numbers_of(line, words, 2), text);
+    }
+    if same(name, b"free") {
+        return calls::free(state, numbers_of(line, words, 2), text);
+    }
+    bad_line(state, text)
+}
+
+// Runs a command on frames, or hands the line on.
+fn frame_line(
+    state: State,
+    line: &[u8],
+    words: Words,
+    bytes: &mut [u8],
+    frame: &mut [u8],
+    text: &mut [u8],
+) -> Ran
+    ensures { λ r. ⌜ r .count ≤ length (now (text .entry)) ⌝ }
+{
+    let name = word(line, words, 0);
+    if same(name, b"fpdu") {
+        let count = frames::fpdu(line, words, bytes, frame, text);
+        return Ran { state, count };
+    }
+    if same(name, b"unframe") {
+        let count = frames::unframe(line, words, bytes, text);
+        return Ran { state, count };
+    }
+    if same(name, b"startup") {
+        let count = frames::startup(line, words, bytes, frame, text);
+        return Ran { state, count };
+    }
+    if same(name, b"unstartup") {
+        let count = frames::unstartup(line, words, bytes, text);
+        return Ran { state, count };
+    }
+    call_line(state, line, words, text)
+}
+
+// Runs a command on the store or on a stream's bytes, or hands the line on.
+fn store_line(
+    state: State,
+    line: &[u8],
+    words: Words,
+    bytes: &mut [u8],
+    frame: &mut [u8],
+    store: &mut [u8],
+    text: &mut [u8],
+) -> Ran
+    ensures { λ r. ⌜ r .count ≤ length (now (text .entry)) ⌝ }
+{
+    let name = word(line, words, 0);
+    if same(name, b"receive") {
+        return streams::receive(state, line, words, bytes, store, text);
+    }
+    if same(name, b"stream") {
+        return streams::open(state, line, words, text);
+    }
+    if same(name, b"bytes") {
+        let count = store::bytes(numbers_of(line, words, 3), store, text);
+        return Ran { state, count };
+    }
+    if same(name, b"fill") {
+        let count = store::fill(line, words, bytes, store, text);
+        return Ran { state, count };
+    }
+    frame_line(state, line, words, bytes, frame, text)
+}
+
+// Runs the words of a line; a comment, and a line without words, write nothing.
+fn answer_line(
+    state: State,
+    line: &[u8],
+    bytes: &mut [u8],
+    frame: &mut [u8],
+    store: &mut [u8],
+    text: &mut [u8],
+) -> Ran
+    ensures { λ r. ⌜ r .count ≤ length (now (text .entry)) ⌝ }
 {
     if is_comment(line) {
-        return 0;
+        return Ran { state, count: 0 };
     }
     let words = split(line);
     if words.count == 0 {
-        return 0;
+        return Ran { state, count: 0 };
     }
-    let name = word(line, words, 0);
-    if same(name, b"fpdu") {
-        return frames::fpdu(line, words, bytes, frame, text);
-    }
-    if same(name, b"unframe") {
-        return frames::unframe(line, words, bytes, text);
-    }
-    if same(name, b"startup") {
-        return frames::startup(line, words, bytes, frame, text);
-    }
-    if same(name, b"unstartup") {
-        return frames::unstartup(line, words, bytes, text);
-    }
-    bad(text)
+    store_line(state, line, words, bytes, frame, store, text)
 }
 
-// Runs a line of `count` bytes, which the buffer `line` starts with unless the line is too long.
-pub fn run_line(line: &[u8], count: usize, bytes: &mut [u8], frame: &mut [u8], text: &mut [u8]) {
-    if line.len() < count {
-        let n = bad(text);
-        print(text, n);
-        return;
-    }
-    let n = answer_line(&line[..count], bytes, frame, text);
+// Writes an answer of n bytes as a line; an answer of none writes nothing.
+fn print_answer(text: &mut [u8], n: usize)
+    requires { ⌜ n ≤ length (now text) ⌝ }
+{
     if n > 0 {
         print(text, n);
     }
+}
+
+// Runs a line of `count` bytes, which the buffer `line` starts with unless the line is too long.
+pub fn run_line(
+    state: State,
+    line: &[u8],
+    count: usize,
+    bytes: &mut [u8],
+    frame: &mut [u8],
+    store: &mut [u8],
+    text: &mut [u8],
+) -> State {
+    if line.len() < count {
+        let n = bad(text);
+        print(text, n);
+        return state;
+    }
+    let ran = answer_line(state, &line[..count], bytes, frame, store, text);
+    print_answer(text, ran.count);
+    ran.state
 }

@@ -1,21 +1,53 @@
 // Runs a script of commands from standard input, and writes one line for each to standard output.
 //
-// `input` reads the script and parts it into lines, `line` runs one of them, `args` finds its words,
-// `frames` has the commands on frames, and `answer` builds what is written. Nothing grows with the
-// script: every buffer stands in `main` and is lent from there.
+// `input` reads the script and parts it into lines, `line` runs one of them, `args` finds its words.
+// The commands: `calls` and `streams` are calls of the device, `store` shows and sets its bytes,
+// `frames` has no state. `answer` and `report` build what is written. Nothing grows with the script:
+// the store and every buffer stand in `main` and are lent from there.
+ghost use mathlib.Core.Path.{_≡_};
+ghost use lib.ListN.{length};
+
 mod answer;
 mod args;
+mod calls;
 mod frames;
 mod input;
 mod line;
+mod report;
+mod state;
+mod store;
+mod streams;
 
-// Lends the buffers. `bytes` holds what the hex of a line stands for, less than half of the line; the
-// longest answer is that of a frame of 2,056 bytes, with two digits for each.
+// The store, of zeros.
+fn new_store() -> [u8; 1048576]
+    ensures { λ r. ⌜ 1048576 ≡ length r ⌝ }
+{
+    [0; 1048576]
+}
+
+// Room for the longest answer, that of `bytes` for the whole store: two digits for each byte, and the
+// word.
+fn new_text() -> [u8; 2097184]
+    ensures { λ r. ⌜ 2097184 ≡ length r ⌝ }
+{
+    [0; 2097184]
+}
+
+// Lends the store and the buffers. `bytes` holds what the hex of a line stands for, less than half of
+// the line.
 fn main() {
     let mut chunk = io::large_buffer();
     let mut line = io::large_buffer();
     let mut bytes = [0u8; 32768];
     let mut frame = io::large_buffer();
-    let mut text = [0u8; 16384];
-    input::run_script(&mut chunk, &mut line, &mut bytes, &mut frame, &mut text);
+    let mut store = new_store();
+    let mut text = new_text();
+    input::run_script(
+        &mut chunk,
+        &mut line,
+        &mut bytes,
+        &mut frame,
+        &mut store,
+        &mut text,
+    );
 }

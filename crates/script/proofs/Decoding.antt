@@ -11,11 +11,11 @@ use lib.ListN.{length, getD, drop}
 use lib.Seq.{take-all, paste}
 use borrow.Author.Tests.{le-leb, lt-leb, ltb-true, leb-true}
 use Rattle.script.specs.Number.{all}
-use Rattle.script.specs.Word.{sameList}
+use Rattle.wire.specs.Wire.{same}
 use Rattle.script.specs.Hex.{dash, nibble, isHexDigit, isHex, hexLengthOf, pairs, within, decodedOf, decodedIn}
 use Rattle.script.specs.declared.hex.HexLength.{HexLength}
 use Rattle.script.specs.declared.hex.Decoded.{Decoded}
-use Rattle.script.proofs.Same.{same-exactly}
+use Rattle.wire.proofs.Laws.{same-eq}
 use Rattle.script.proofs.Pairs.{length-pairs}
 
 -- both tests of an `and` that is true
@@ -42,13 +42,13 @@ module _ (w : List ℕ) (n : ℕ) where
       let all-hex = both (not (eqb (length w) 0) && eqb (length w % 2) 0) (all isHexDigit w) e .1 in
       record { half = h; digits = λ k l. ltb-true _ _ (all-at isHexDigit w all-hex k (omega arith)) }
 
-  told-dash : sameList w dash ≡ true → HexLength.Bytes 0 ≡ HexLength.Bytes n → Told w n
+  told-dash : same w dash ≡ true → HexLength.Bytes 0 ≡ HexLength.Bytes n → Told w n
   told-dash e q =
       let h : n ≡ 0 = cc in
-      let l = ap length (same-exactly w dash .0 e) in
+      let l = ap length (same-eq w dash e) in
       record { half = omega arith; digits = λ k m. absurd (omega arith) }
 
-  told-by : (t u : Bool) → sameList w dash ≡ t → isHex w ≡ u
+  told-by : (t u : Bool) → same w dash ≡ t → isHex w ≡ u
       → cond t (HexLength.Bytes 0) (cond u (HexLength.Bytes (length w / 2)) HexLength.Bad) ≡ HexLength.Bytes n → Told w n
   told-by true u d e q = told-dash d q
   told-by false true d e q = told-hex e q
@@ -56,7 +56,7 @@ module _ (w : List ℕ) (n : ℕ) where
 
   pub told : hexLengthOf w ≡ HexLength.Bytes n → Told w n
   unfolding hexLengthOf
-  told q = told-by (sameList w dash) (isHex w) refl refl q
+  told q = told-by (same w dash) (isHex w) refl refl q
 
 module _ (w out : List ℕ) where
   pub decoded : (n : ℕ) → hexLengthOf w ≡ HexLength.Bytes n → n ≤ length out

@@ -1,6 +1,5 @@
 -- The laws of the definitions in `specs/` that the proofs share, and the theorems on reading back what was written (`Round`).
 pub mod Scan
-pub mod Same
 pub mod Digits
 pub mod Placed
 pub mod Numbers

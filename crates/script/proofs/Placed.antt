@@ -2,7 +2,7 @@
 -- writes them. Assumes nothing.
 use mathlib.Core.Path.{_≡_, refl, sym, ap, ap₂, _∙_}
 use mathlib.Core.Bool.{Bool, true, false, cond}
-use mathlib.Core.List.{List, _++_}
+use mathlib.Core.List.{List, _++_, append-assoc}
 use Prim.Native.Nat.{ℕ, _+_, _≤_, _<_}
 use native.Mathlib.Nat.{zero-add}
 use native.Mathlib.Numerals.{add-one}
@@ -11,6 +11,7 @@ use lib.Dec.{leb}
 use lib.ListN.{length, take, drop, getD, set}
 use lib.Seq.{paste, paste-suc, take-length}
 use borrow.Author.Tests.{le-leb, lt-leb, leb-true}
+use Rattle.wire.specs.Wire.{put}
 use Rattle.script.specs.Put.{putIn, putEnd}
 
 -- now is out with j bytes of s pasted in at `at`: a store of the next one makes it one more
@@ -29,13 +30,17 @@ module _ (s out : List ℕ) (at : ℕ) where
   unfolding putEnd putIn
   put-not h = (rw (lt-leb _ _ h), rw (lt-leb _ _ h))
 
+  pub put-fit : at + length s ≤ length out → (at + length s ≡ putEnd s out at) × (put out at s ≡ putIn s out at)
+  unfolding putEnd putIn
+  put-fit h = (rw (le-leb _ _ h), rw (le-leb _ _ h))
+
   -- after the loop: j is no less than the count n of bytes, and no more
   pub put-done : (now : List ℕ) (n j : ℕ) → n ≡ length s → at + n ≤ length out → j ≤ n → n ≤ j → now ≡ paste out at s j
       → (at + n ≡ putEnd s out at) × (now ≡ putIn s out at)
   unfolding putEnd putIn
   put-done now n j e h lo hi p =
       let k : j ≡ length s = omega arith in
-      let all = p ∙ ap (paste out at s) k ∙ ap (λ (l : List ℕ). take at out ++ l ++ drop (at + length s) out) (take-length s) in
+      let all = p ∙ ap (paste out at s) k ∙ ap (λ (l : List ℕ). take at out ++ l ++ drop (at + length s) out) (take-length s) ∙ append-assoc (take at out) s (drop (at + length s) out) in
       (rw (le-leb (at + length s) (length out) (omega arith), e), rw (le-leb (at + length s) (length out) (omega arith)) all)
 
 -- the same of an equal list

@@ -10,14 +10,13 @@ use lib.Dec.{ltb}
 use lib.ListN.{length, getD, drop, length-append}
 use borrow.Author.Tests.{lt-ltb, ltb-true, ltb-false, eq-eqb, ne-eqb}
 use Rattle.script.specs.Number.{isDigit, all, valueFrom, numberFrom, numberOf, digitsOf, decimal}
-use Rattle.script.specs.Word.{sameList}
+use Rattle.wire.proofs.Laws.{same-false}
 use Rattle.script.specs.Hex.{dash, nibble, isHexDigit, isHex, hexLengthOf, pairs, decodedOf, decodedIn, lower, hexDigits, hexText}
 use Rattle.script.specs.declared.number.Number.the-variants.{Value}
 use Rattle.script.specs.declared.hex.HexLength.{HexLength}
 use Rattle.script.specs.declared.hex.Decoded.{Decoded}
 use Rattle.script.proofs.Digits.{inside, value-digit, value-lower}
 use Rattle.script.proofs.Numbers.{number-some}
-use Rattle.script.proofs.Same.{lengths-differ}
 use Rattle.script.proofs.Pairs.{length-digits}
 use Rattle.script.proofs.Decoding.{both, decoded}
 
@@ -101,13 +100,13 @@ pairs-back (b ∷ l) h =
     rw (high-back b (h 0), low-back b (h 0), e, pairs-back l (λ i. h (suc i)))
 
 length-back : (l : List ℕ) → ((i : ℕ) → getD l i 0 < 256) → hexLengthOf (hexText l) ≡ HexLength.Bytes (length l)
-unfolding hexLengthOf hexText sameList isHex
+unfolding hexLengthOf hexText isHex
 length-back [] h = refl
 length-back (b ∷ l) h =
     let n = length-digits (b ∷ l) in
     let s = hexDigits (b ∷ l) in
     let half : length s / 2 ≡ length (b ∷ l) = omega arith in
-    rw (lengths-differ s dash (λ e. omega arith), ne-eqb (length s) 0 (λ e. omega arith), eq-eqb (length s % 2) 0 (omega arith), all-digits (b ∷ l) h, half)
+    rw (same-false s dash (λ e. let k = ap length e in omega arith), ne-eqb (length s) 0 (λ e. omega arith), eq-eqb (length s % 2) 0 (omega arith), all-digits (b ∷ l) h, half)
 
 text-back : (l : List ℕ) → ((i : ℕ) → getD l i 0 < 256) → pairs (hexText l) ≡ l
 unfolding hexText pairs

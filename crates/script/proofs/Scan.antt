@@ -40,6 +40,10 @@ unfolding leading
 leading-le p [] = omega arith
 leading-le p (b ∷ l) = counted (p b) (leading p l) (length l) (leading-le p l)
 
+-- the place that is found lies within the list, and not before the one looked from
+pub past-within : (p : ℕ → Bool) (l : List ℕ) (i : ℕ) → i ≤ length l → (i ≤ past p l i) × (past p l i ≤ length l)
+past-within p l i h = let n = leading-le p (drop i l) in (omega arith, omega (arith, length-drop i l))
+
 word-by : (line : List ℕ) (a s e : ℕ) (t : Bool) → ltb a (past notSpace line a) ≡ t
     → cond t (At a (past notSpace line a)) Nothing ≡ At s e → (s < e) × (e ≤ length line)
 word-by line a s e true h q =

@@ -6,7 +6,7 @@ use mathlib.Core.List.{List, [], _∷_, _++_}
 use lib.ListN.{length, drop}
 use lib.Dec.{eqb, ltb, leb}
 use Rattle.script.specs.Number.{between, isDigit, all}
-use Rattle.script.specs.Word.{sameList}
+use Rattle.wire.specs.Wire.{same}
 use Rattle.script.specs.declared.hex.HexLength.{HexLength}
 use Rattle.script.specs.declared.hex.Decoded.{Decoded}
 
@@ -28,7 +28,7 @@ isHex w = not (eqb (length w) 0) && eqb (length w % 2) 0 && all isHexDigit w
 
 -- how many bytes a word stands for
 unfoldable pub hexLengthOf : List ℕ → HexLength
-hexLengthOf w = cond (sameList w dash) (HexLength.Bytes 0) (cond (isHex w) (HexLength.Bytes (length w / 2)) HexLength.Bad)
+hexLengthOf w = cond (same w dash) (HexLength.Bytes 0) (cond (isHex w) (HexLength.Bytes (length w / 2)) HexLength.Bad)
 
 -- the bytes that pairs of digits stand for, the high digit first
 unfoldable pub pairs : List ℕ → List ℕ

@@ -2,9 +2,10 @@
 -- Assumes nothing.
 use Prim.Native.Nat.{ℕ, _+_}
 use mathlib.Core.Bool.{Bool, cond}
-use mathlib.Core.List.{List, _++_}
-use lib.ListN.{length, take, drop}
+use mathlib.Core.List.{List}
+use lib.ListN.{length}
 use lib.Dec.{leb}
+use Rattle.wire.specs.Wire.{put}
 
 -- whether s fits into out at `at`
 abbrev pub fits : List ℕ → List ℕ → ℕ → Bool
@@ -12,7 +13,7 @@ fits s out at = leb (at + length s) (length out)
 
 -- out, with s from `at` on where it fits
 unfoldable pub putIn : List ℕ → List ℕ → ℕ → List ℕ
-putIn s out at = cond (fits s out at) (take at out ++ s ++ drop (at + length s) out) out
+putIn s out at = cond (fits s out at) (put out at s) out
 
 -- the place after s where it fits, and else `at`
 unfoldable pub putEnd : List ℕ → List ℕ → ℕ → ℕ

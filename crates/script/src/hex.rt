@@ -1,6 +1,6 @@
 // Bytes as hex digits.
 use super::put::put_word;
-use super::word::same;
+use wire::copy::same;
 ghost use mathlib.Core.Path.{_≡_};
 ghost use Prim.Native.Nat.{ℕ, _+_, _≤_, _<_};
 ghost use lib.ListN.{length, getD};

@@ -14,10 +14,6 @@ pub fn put_word(w: &[u8], out: &mut [u8], at: usize) -> usize
     if w.len() > out.len() - at {
         return at;
     }
-    let mut j = 0;
-    while j < w.len() {
-        out[at + j] = w[j];
-        j += 1;
-    }
+    wire::copy::copy(out, at, w);
     at + w.len()
 }

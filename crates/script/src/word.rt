@@ -1,6 +1,6 @@
-// The words of a line.
+// The lines of a script, and the words of a line.
 ghost use mathlib.Core.Path.{_≡_};
-ghost use Rattle.script.specs.Word.{isSpace, notSpace, past, wordAt, sameList, sameWord};
+ghost use Rattle.script.specs.Word.{isSpace, notSpace, notNewline, past, wordAt};
 
 // Where a word stands: from start up to, not with, end.
 pub enum Word {
@@ -50,32 +50,16 @@ pub fn next_word(line: &[u8], from: usize) -> Word
     }
 }
 
-// Whether two slices hold the same bytes.
-pub fn same(a: &[u8], b: &[u8]) -> bool
-    ensures { λ r. ⌜ r ≡ sameList (now (a .entry)) (now (b .entry)) ⌝ }
+// The first place from `from` on that holds a newline, or the bytes' end.
+pub fn line_end(bytes: &[u8], from: usize) -> usize
+    ensures { λ r. ⌜ r ≡ past notNewline (now (bytes .entry)) from ⌝ }
 {
-    if a.len() != b.len() {
-        return false;
-    }
-    let mut i = 0;
-    while i < a.len() {
-        if a[i] != b[i] {
-            return false;
+    let mut at = from;
+    while at < bytes.len() {
+        if bytes[at] == b'\n' {
+            return at;
         }
-        i += 1;
+        at += 1;
     }
-    true
-}
-
-// Whether the line has the name from start up to, not with, end.
-pub fn same_word(line: &[u8], start: usize, end: usize, name: &[u8]) -> bool
-    ensures { λ r. ⌜ r ≡ sameWord (now (line .entry)) start end (now (name .entry)) ⌝ }
-{
-    if start > end {
-        return false;
-    }
-    if end > line.len() {
-        return false;
-    }
-    same(&line[start..end], name)
+    at
 }

@@ -6,10 +6,20 @@ use Rattle.replay.proofs.input.run_script.Statement.{statement}
 use Rattle.replay.proofs.input.run_script.Tie as tie
 
 abbrev Inv-loop : tie.InvT-loop
-Inv-loop chunk₀ line₀ bytes₀ frame₀ text₀ turns₀ count₀ chunk line bytes frame text turns count = (length chunk ≡ length chunk₀) × (length line ≡ length line₀) × (length bytes ≡ length bytes₀) × (length frame ≡ length frame₀) × (length text ≡ length text₀)
+Inv-loop chunk₀ line₀ bytes₀ frame₀ store₀ text₀ turns₀ reached₀ chunk line bytes frame store text turns reached =
+    (length chunk ≡ length chunk₀)
+    × (length line ≡ length line₀)
+    × (length bytes ≡ length bytes₀)
+    × (length frame ≡ length frame₀)
+    × (length store ≡ length store₀)
+    × (length text ≡ length text₀)
 
 abbrev μ-loop : tie.MeasureT-loop
-μ-loop chunk₀ line₀ bytes₀ frame₀ text₀ turns₀ count₀ chunk line bytes frame text turns count = turns
+μ-loop chunk₀ line₀ bytes₀ frame₀ store₀ text₀ turns₀ reached₀ chunk line bytes frame store text turns reached =
+    turns
+
+first-state-requires : tie.Need-first-state-requires Inv-loop μ-loop
+first-state-requires c κs = search needs
 
 loop-holds : tie.Need-loop-holds Inv-loop μ-loop
 loop-holds c = search needs
@@ -35,14 +45,14 @@ same-length-4 c = search needs
 same-length-5 : tie.Need-same-length-5 Inv-loop μ-loop
 same-length-5 c = search needs
 
+same-length-6 : tie.Need-same-length-6 Inv-loop μ-loop
+same-length-6 c = search needs
+
 returns : tie.Need-returns Inv-loop μ-loop
 returns c = search needs
 
 run-rest-requires : tie.Need-run-rest-requires Inv-loop μ-loop
 run-rest-requires c κs = search needs
-
-same-length-6 : tie.Need-same-length-6 Inv-loop μ-loop
-same-length-6 c = search needs
 
 same-length-7 : tie.Need-same-length-7 Inv-loop μ-loop
 same-length-7 c = search needs
@@ -55,6 +65,12 @@ same-length-9 c = search needs
 
 same-length-10 : tie.Need-same-length-10 Inv-loop μ-loop
 same-length-10 c = search needs
+
+same-length-11 : tie.Need-same-length-11 Inv-loop μ-loop
+same-length-11 c = search needs
+
+same-length-12 : tie.Need-same-length-12 Inv-loop μ-loop
+same-length-12 c = search needs
 
 returns-2 : tie.Need-returns-2 Inv-loop μ-loop
 returns-2 c = search needs
@@ -77,12 +93,6 @@ loop-less c = search needs
 loop-again : tie.Need-loop-again Inv-loop μ-loop
 loop-again c = search needs
 
-same-length-11 : tie.Need-same-length-11 Inv-loop μ-loop
-same-length-11 c = search needs
-
-same-length-12 : tie.Need-same-length-12 Inv-loop μ-loop
-same-length-12 c = search needs
-
 same-length-13 : tie.Need-same-length-13 Inv-loop μ-loop
 same-length-13 c = search needs
 
@@ -91,6 +101,15 @@ same-length-14 c = search needs
 
 same-length-15 : tie.Need-same-length-15 Inv-loop μ-loop
 same-length-15 c = search needs
+
+same-length-16 : tie.Need-same-length-16 Inv-loop μ-loop
+same-length-16 c = search needs
+
+same-length-17 : tie.Need-same-length-17 Inv-loop μ-loop
+same-length-17 c = search needs
+
+same-length-18 : tie.Need-same-length-18 Inv-loop μ-loop
+same-length-18 c = search needs
 
 returns-3 : tie.Need-returns-3 Inv-loop μ-loop
 returns-3 c = search needs
@@ -101,6 +120,7 @@ run-script-spec =
     (tie.spec
     Inv-loop
     μ-loop
+    first-state-requires
     loop-holds
     read-chunk-requires
     say-failed-requires
@@ -109,13 +129,15 @@ run-script-spec =
     same-length-3
     same-length-4
     same-length-5
+    same-length-6
     returns
     run-rest-requires
-    same-length-6
     same-length-7
     same-length-8
     same-length-9
     same-length-10
+    same-length-11
+    same-length-12
     returns-2
     slice-reshare-prefix-take-chunk
     slice-aggregate-take-chunk
@@ -123,9 +145,10 @@ run-script-spec =
     sub-turns
     loop-less
     loop-again
-    same-length-11
-    same-length-12
     same-length-13
     same-length-14
     same-length-15
+    same-length-16
+    same-length-17
+    same-length-18
     returns-3)

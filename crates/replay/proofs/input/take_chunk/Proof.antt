@@ -1,34 +1,47 @@
--- `take_chunk` is safe and ends. The lent slices keep their lengths; the measure is what is left of the chunk.
+-- `take_chunk` is safe and ends: a line that starts within the chunk ends within it, and the next one starts further on. The lent slices keep their lengths; the measure is what is left of the chunk.
 use Prim.Native.Nat.{_-_, _≤_}
 use mathlib.Core.Path.{_≡_}
+use native.Mathlib.Omega.{arith}
 use lib.ListN.{length}
 use borrow.Author.Needs.{needs}
+use Rattle.replay.proofs.Gathered.{end-within}
 use Rattle.replay.proofs.input.take_chunk.Statement.{statement}
 use Rattle.replay.proofs.input.take_chunk.Tie as tie
 
 abbrev Inv-loop : tie.InvT-loop
-Inv-loop chunk line₀ start bytes₀ frame₀ text₀ count₀ i₀ line bytes frame text count i = (i ≤ length chunk) × (length line ≡ length line₀) × (length bytes ≡ length bytes₀) × (length frame ≡ length frame₀) × (length text ≡ length text₀)
+Inv-loop chunk line₀ bytes₀ frame₀ store₀ text₀ state₀ count₀ i₀ line bytes frame store text state count i =
+    (i ≤ length chunk)
+    × (length line ≡ length line₀)
+    × (length bytes ≡ length bytes₀)
+    × (length frame ≡ length frame₀)
+    × (length store ≡ length store₀)
+    × (length text ≡ length text₀)
 
 abbrev μ-loop : tie.MeasureT-loop
-μ-loop chunk line₀ start bytes₀ frame₀ text₀ count₀ i₀ line bytes frame text count i = length chunk - i
+μ-loop chunk line₀ bytes₀ frame₀ store₀ text₀ state₀ count₀ i₀ line bytes frame store text state count i =
+    length chunk - i
 
 loop-holds : tie.Need-loop-holds Inv-loop μ-loop
 loop-holds c = search needs
 
-shared-slice-read-take-byte : tie.Need-shared-slice-read-take-byte Inv-loop μ-loop
-shared-slice-read-take-byte c = search needs
+line-end-requires : tie.Need-line-end-requires Inv-loop μ-loop
+line-end-requires c κs = search needs
 
-take-byte-requires : tie.Need-take-byte-requires Inv-loop μ-loop
-take-byte-requires c κs = search needs
+sub-add-bytes : tie.Need-sub-add-bytes Inv-loop μ-loop
+sub-add-bytes c = end-within _ _ _ (c .before .before .loop-test .taken) (c .before .line-end .ensures) .0
 
-add-i : tie.Need-add-i Inv-loop μ-loop
-add-i c = search needs
+part-add-bytes-start : tie.Need-part-add-bytes-start Inv-loop μ-loop
+part-add-bytes-start c =
+    let w = end-within _ _ _ (c .before .before .loop-test .taken) (c .before .line-end .ensures) in
+    omega (arith, w .0, w .1)
 
-loop-less : tie.Need-loop-less Inv-loop μ-loop
-loop-less c = search needs
+part-add-bytes-end : tie.Need-part-add-bytes-end Inv-loop μ-loop
+part-add-bytes-end c =
+    let w = end-within _ _ _ (c .before .before .loop-test .taken) (c .before .line-end .ensures) in
+    omega (arith, w .0, w .1)
 
-loop-again : tie.Need-loop-again Inv-loop μ-loop
-loop-again c = search needs
+add-bytes-requires : tie.Need-add-bytes-requires Inv-loop μ-loop
+add-bytes-requires c κs = search needs
 
 same-length : tie.Need-same-length Inv-loop μ-loop
 same-length c = search needs
@@ -42,8 +55,47 @@ same-length-3 c = search needs
 same-length-4 : tie.Need-same-length-4 Inv-loop μ-loop
 same-length-4 c = search needs
 
+same-length-5 : tie.Need-same-length-5 Inv-loop μ-loop
+same-length-5 c = search needs
+
 returns : tie.Need-returns Inv-loop μ-loop
 returns c = search needs
+
+add-i : tie.Need-add-i Inv-loop μ-loop
+add-i c =
+    let w = end-within _ _ _ (c .before .before .before .before .before .before .before .loop-test .taken) (c .before .before .before .before .before .before .line-end .ensures) in
+    search needs
+
+run-line-requires : tie.Need-run-line-requires Inv-loop μ-loop
+run-line-requires c κs = search needs
+
+loop-less : tie.Need-loop-less Inv-loop μ-loop
+loop-less c =
+    let w = end-within _ _ _ (c .before .before .before .before .before .before .before .before .before .before .before .before .before .before .before .before .before .before .before .before .before .loop-test .taken) (c .before .before .before .before .before .before .before .before .before .before .before .before .before .before .before .before .before .before .before .before .line-end .ensures) in
+    search needs
+
+loop-again : tie.Need-loop-again Inv-loop μ-loop
+loop-again c =
+    let w = end-within _ _ _ (c .before .before .before .before .before .before .before .before .before .before .before .before .before .before .before .before .before .before .before .before .before .loop-test .taken) (c .before .before .before .before .before .before .before .before .before .before .before .before .before .before .before .before .before .before .before .before .line-end .ensures) in
+    search needs
+
+same-length-6 : tie.Need-same-length-6 Inv-loop μ-loop
+same-length-6 c = search needs
+
+same-length-7 : tie.Need-same-length-7 Inv-loop μ-loop
+same-length-7 c = search needs
+
+same-length-8 : tie.Need-same-length-8 Inv-loop μ-loop
+same-length-8 c = search needs
+
+same-length-9 : tie.Need-same-length-9 Inv-loop μ-loop
+same-length-9 c = search needs
+
+same-length-10 : tie.Need-same-length-10 Inv-loop μ-loop
+same-length-10 c = search needs
+
+returns-2 : tie.Need-returns-2 Inv-loop μ-loop
+returns-2 c = search needs
 
 pub take-chunk-spec : {M : Type 1} → statement M
 take-chunk-spec =
@@ -52,13 +104,24 @@ take-chunk-spec =
     Inv-loop
     μ-loop
     loop-holds
-    shared-slice-read-take-byte
-    take-byte-requires
-    add-i
-    loop-less
-    loop-again
+    line-end-requires
+    sub-add-bytes
+    part-add-bytes-start
+    part-add-bytes-end
+    add-bytes-requires
     same-length
     same-length-2
     same-length-3
     same-length-4
-    returns)
+    same-length-5
+    returns
+    add-i
+    run-line-requires
+    loop-less
+    loop-again
+    same-length-6
+    same-length-7
+    same-length-8
+    same-length-9
+    same-length-10
+    returns-2)

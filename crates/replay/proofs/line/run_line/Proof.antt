@@ -23,8 +23,8 @@ slice-aggregate-answer-line c = sym (length-take-le _ _ (search needs))
 answer-line-requires : tie.Need-answer-line-requires
 answer-line-requires c κs = search needs
 
-print-requires-2 : tie.Need-print-requires-2
-print-requires-2 c κs = search needs
+print-answer-requires : tie.Need-print-answer-requires
+print-answer-requires c κs = search needs
 
 same-length-2 : tie.Need-same-length-2
 same-length-2 c = search needs
@@ -35,20 +35,11 @@ same-length-3 c = search needs
 same-length-4 : tie.Need-same-length-4
 same-length-4 c = search needs
 
-returns-2 : tie.Need-returns-2
-returns-2 c = search needs
-
 same-length-5 : tie.Need-same-length-5
 same-length-5 c = search needs
 
-same-length-6 : tie.Need-same-length-6
-same-length-6 c = search needs
-
-same-length-7 : tie.Need-same-length-7
-same-length-7 c = search needs
-
-returns-3 : tie.Need-returns-3
-returns-3 c = search needs
+returns-2 : tie.Need-returns-2
+returns-2 c = search needs
 
 pub run-line-spec : {M : Type 1} → statement M
 run-line-spec =
@@ -60,12 +51,9 @@ run-line-spec =
     returns
     slice-aggregate-answer-line
     answer-line-requires
-    print-requires-2
+    print-answer-requires
     same-length-2
     same-length-3
     same-length-4
-    returns-2
     same-length-5
-    same-length-6
-    same-length-7
-    returns-3)
+    returns-2)

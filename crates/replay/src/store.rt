@@ -1,0 +1,61 @@
+// The commands that show and set bytes of the store. Neither is a call of the device.
+use super::answer::bad;
+use super::answer::first;
+use super::answer::then_hex;
+use super::args::Numbers;
+use super::args::Words;
+use super::args::hex_into;
+use super::args::word;
+use script::number::Number;
+use script::number::read_number;
+ghost use Prim.Native.Nat.{_≤_};
+ghost use lib.ListN.{length};
+
+// `bytes START LENGTH`: shows that many bytes from START on.
+pub fn bytes(n: Numbers, store: &[u8], text: &mut [u8]) -> usize
+    ensures { λ r. ⌜ r ≤ length (now (text .entry)) ⌝ }
+{
+    if n.ok {
+        let start = n.values[1] as usize;
+        let size = n.values[2] as usize;
+        if start <= store.len() {
+            if size <= store.len() - start {
+                let at = first(b"bytes", text);
+                let end = start + size;
+                return then_hex(&store[start..end], text, at);
+            }
+        }
+    }
+    bad(text)
+}
+
+// Puts bytes into the store from a place on, if they fit.
+fn put_bytes(bytes: &[u8], at: usize, store: &mut [u8], text: &mut [u8]) -> usize
+    ensures { λ r. ⌜ r ≤ length (now (text .entry)) ⌝ }
+{
+    if at <= store.len() {
+        if bytes.len() <= store.len() - at {
+            wire::copy::copy(store, at, bytes);
+            return first(b"done", text);
+        }
+    }
+    bad(text)
+}
+
+// `fill START HEX`: puts bytes into the store from START on.
+pub fn fill(line: &[u8], words: Words, bytes: &mut [u8], store: &mut [u8], text: &mut [u8]) -> usize
+    ensures { λ r. ⌜ r ≤ length (now (text .entry)) ⌝ }
+{
+    if words.count != 3 {
+        return bad(text);
+    }
+    let Number::Value(start) = read_number(word(line, words, 1)) else {
+        return bad(text);
+    };
+    let hex = hex_into(word(line, words, 2), bytes);
+    if hex.ok {
+        let n = hex.count;
+        return put_bytes(&bytes[..n], start as usize, store, text);
+    }
+    bad(text)
+}
