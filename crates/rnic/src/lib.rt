@@ -3,15 +3,16 @@
 // needs it, calls the domain's function, and puts the entry back, also where the call was refused.
 //
 // Read `Rnic` first, then `receive`. The definitions that the contracts cite are in specs/Rnic.antt;
-// each is the owner's step of the crate `domain`, lifted. No function has a `requires`.
+// each is the owner's step of the crate `domain`, lifted. No public function has a `requires`.
 ghost use mathlib.Core.Path.{_≡_};
-ghost use Prim.Native.Nat.{_≤_};
+ghost use Prim.Native.Nat.{_<_, _≤_};
 ghost use lib.ListN.{length};
 ghost use lib.Dec.{leb};
 ghost use Rattle.wire.specs.Wire.{both};
 ghost use Rattle.rnic.specs.Rnic.{
   openedRnic,
   newRnic,
+  withDomain,
   inOrder,
   rnicOpened,
   rnicClosed,
@@ -181,6 +182,16 @@ pub fn open(
     }
 }
 
+// The device with one domain's entry exchanged.
+fn with_domain(b: Rnic, owner: usize, d: Domain) -> Rnic
+    requires { ⌜ owner < 4 ⌝ }
+    ensures { λ r. ⌜ r ≡ withDomain b owner d ⌝ }
+{
+    let mut next = b;
+    next.domains[owner] = d;
+    next
+}
+
 // Opens a stream with the CRC on or off.
 pub fn open_stream(b: Rnic, stream: u64, crc: bool) -> RnicDone
     ensures { λ r. ⌜ r ≡ rnicOpened b stream crc ⌝ }
@@ -190,13 +201,8 @@ pub fn open_stream(b: Rnic, stream: u64, crc: bool) -> RnicDone
         let dom = b.domains[owner];
         let done = domain::open_stream(dom, stream % 4, crc);
         let outcome = done.outcome;
-        let changed = done.domain;
-        let mut next = b;
-        next.domains[owner] = changed;
-        return RnicDone {
-            outcome,
-            rnic: next,
-        };
+        let rnic = with_domain(b, owner, done.domain);
+        return RnicDone { outcome, rnic };
     }
     RnicDone {
         outcome: Outcome::Refused(1),
@@ -213,10 +219,8 @@ pub fn close_stream(b: Rnic, stream: u64) -> RnicClosed
         let dom = b.domains[owner];
         let done = domain::close_stream(dom, stream % 4);
         let answer = done.answer;
-        let changed = done.domain;
-        let mut next = b;
-        next.domains[owner] = changed;
-        return RnicClosed { answer, rnic: next };
+        let rnic = with_domain(b, owner, done.domain);
+        return RnicClosed { answer, rnic };
     }
     RnicClosed {
         answer: CloseAnswer::Refused(1),
@@ -233,13 +237,8 @@ pub fn post(b: Rnic, stream: u64, start: u64, len: u64) -> RnicDone
         let dom = b.domains[owner];
         let done = domain::post(dom, stream % 4, start, len);
         let outcome = done.outcome;
-        let changed = done.domain;
-        let mut next = b;
-        next.domains[owner] = changed;
-        return RnicDone {
-            outcome,
-            rnic: next,
-        };
+        let rnic = with_domain(b, owner, done.domain);
+        return RnicDone { outcome, rnic };
     }
     RnicDone {
         outcome: Outcome::Refused(1),
@@ -256,10 +255,8 @@ pub fn take(b: Rnic, stream: u64) -> RnicTaken
         let dom = b.domains[owner];
         let done = domain::take(dom, stream % 4);
         let answer = done.answer;
-        let changed = done.domain;
-        let mut next = b;
-        next.domains[owner] = changed;
-        return RnicTaken { answer, rnic: next };
+        let rnic = with_domain(b, owner, done.domain);
+        return RnicTaken { answer, rnic };
     }
     RnicTaken {
         answer: TakeAnswer::Refused(1),
@@ -284,13 +281,8 @@ pub fn register(
         let dom = b.domains[owner];
         let done = domain::register(dom, window % 16, key, base, len, place, rights);
         let outcome = done.outcome;
-        let changed = done.domain;
-        let mut next = b;
-        next.domains[owner] = changed;
-        return RnicDone {
-            outcome,
-            rnic: next,
-        };
+        let rnic = with_domain(b, owner, done.domain);
+        return RnicDone { outcome, rnic };
     }
     RnicDone {
         outcome: Outcome::Refused(1),
@@ -307,13 +299,8 @@ pub fn drop_window(b: Rnic, window: u64) -> RnicDone
         let dom = b.domains[owner];
         let done = domain::drop_window(dom, window % 16);
         let outcome = done.outcome;
-        let changed = done.domain;
-        let mut next = b;
-        next.domains[owner] = changed;
-        return RnicDone {
-            outcome,
-            rnic: next,
-        };
+        let rnic = with_domain(b, owner, done.domain);
+        return RnicDone { outcome, rnic };
     }
     RnicDone {
         outcome: Outcome::Refused(1),
@@ -357,14 +344,13 @@ fn receive_owned(b: Rnic, store: &mut [u8], stream: u64, bytes: &[u8]) -> RnicRe
     let part = dom.part;
     let start = part.start as usize;
     let end = part.end as usize;
+    let all = store.len();
     if start <= end {
-        if end <= store.len() {
+        if end <= all {
             let done = domain::receive(dom, number, &mut store[start..end], stream % 4, bytes);
             let answer = done.answer;
-            let changed = done.domain;
-            let mut next = b;
-            next.domains[owner] = changed;
-            return RnicReceived { answer, rnic: next };
+            let rnic = with_domain(b, owner, done.domain);
+            return RnicReceived { answer, rnic };
         }
     }
     RnicReceived {

@@ -14,15 +14,12 @@ element-copy-out-dom c = search needs
 post-requires : tie.Need-post-requires
 post-requires c κs = search needs
 
-mul-changed : tie.Need-mul-changed
-mul-changed c = search needs
-
-element-set-from-changed : tie.Need-element-set-from-changed
-element-set-from-changed c = search needs
+with-domain-requires : tie.Need-with-domain-requires
+with-domain-requires c κs = search needs
 
 returns : tie.Need-returns
 unfolding rnicPosted
-returns c = simp (le-leb _ _ (c .before .before .before .if1 .taken), c .before .post .ensures)
+returns c = simp (le-leb _ _ (c .before .before .before .if1 .taken), c .with-domain .ensures, c .before .post .ensures)
 
 returns-2 : tie.Need-returns-2
 unfolding rnicPosted
@@ -31,11 +28,4 @@ returns-2 c = simp (lt-leb _ _ (c .if1 .left))
 pub post-spec : {M : Type 1} → statement M
 post-spec =
     tie.close
-    (tie.spec
-    mul-dom
-    element-copy-out-dom
-    post-requires
-    mul-changed
-    element-set-from-changed
-    returns
-    returns-2)
+    (tie.spec mul-dom element-copy-out-dom post-requires with-domain-requires returns returns-2)

@@ -26,11 +26,8 @@ part-receive-end c = search needs
 receive-requires : tie.Need-receive-requires
 receive-requires c κs = search needs
 
-mul-changed : tie.Need-mul-changed
-mul-changed c = search needs
-
-element-set-from-changed : tie.Need-element-set-from-changed
-element-set-from-changed c = search needs
+with-domain-requires : tie.Need-with-domain-requires
+with-domain-requires c κs = search needs
 
 same-length : tie.Need-same-length
 same-length c = search needs
@@ -38,7 +35,7 @@ same-length c = search needs
 returns : tie.Need-returns
 unfolding receivedOwned receivedOwnedStore
 returns c = (
-  simp (le-leb _ _ (c .before .before .before .before .before .before .if1 .taken), le-leb _ _ (c .before .before .before .before .before .if2 .taken), c .before .before .before .receive .ensures .0),
+  simp (le-leb _ _ (c .before .before .before .before .before .before .if1 .taken), le-leb _ _ (c .before .before .before .before .before .if2 .taken), c .with-domain .ensures, c .before .before .before .receive .ensures .0),
   simp (le-leb _ _ (c .before .before .before .before .before .before .if1 .taken), le-leb _ _ (c .before .before .before .before .before .if2 .taken), c .before .before .before .receive .ensures .1),
 )
 
@@ -61,8 +58,7 @@ receive-owned-spec =
     part-receive-start
     part-receive-end
     receive-requires
-    mul-changed
-    element-set-from-changed
+    with-domain-requires
     same-length
     returns
     returns-2

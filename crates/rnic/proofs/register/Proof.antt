@@ -14,15 +14,12 @@ element-copy-out-dom c = search needs
 register-requires : tie.Need-register-requires
 register-requires c κs = search needs
 
-mul-changed : tie.Need-mul-changed
-mul-changed c = search needs
-
-element-set-from-changed : tie.Need-element-set-from-changed
-element-set-from-changed c = search needs
+with-domain-requires : tie.Need-with-domain-requires
+with-domain-requires c κs = search needs
 
 returns : tie.Need-returns
 unfolding rnicRegistered
-returns c = simp (le-leb _ _ (c .before .before .before .if1 .taken), c .before .register .ensures)
+returns c = simp (le-leb _ _ (c .before .before .before .if1 .taken), c .with-domain .ensures, c .before .register .ensures)
 
 returns-2 : tie.Need-returns-2
 unfolding rnicRegistered
@@ -35,7 +32,6 @@ register-spec =
     mul-dom
     element-copy-out-dom
     register-requires
-    mul-changed
-    element-set-from-changed
+    with-domain-requires
     returns
     returns-2)
