@@ -12,6 +12,7 @@ use lib.Seq.{drop-cons}
 use lib.Dec.{leb, ltb, eqb}
 use borrow.Author.Tests.{leb-true, leb-false, le-leb, lt-leb}
 use Rattle.wire.specs.Wire.{pick, both}
+use Rattle.wire.proofs.Laws.{both-true}
 use Rattle.ddp.specs.Part.{inPart}
 use Rattle.ddp.specs.Window.{inRange, windowFits, noWindow, windowAt, liveCount, lowestFree, named, found}
 use Rattle.ddp.specs.declared.part.Part.{Part}
@@ -34,12 +35,10 @@ pub ltb-same : (a b c d : ℕ) → (a < b → c < d) → (c < d → a < b) → l
 ltb-same a b c d f g = leb-same _ _ _ _ f g
 
 pub both-left : (a b : Bool) → both a b ≡ true → a ≡ true
-both-left true b e = refl
-both-left false b e = e
+both-left a b e = both-true a b e .0
 
 pub both-right : (a b : Bool) → both a b ≡ true → b ≡ true
-both-right true b e = e
-both-right false b e = cc
+both-right a b e = both-true a b e .1
 
 -- what lies in a part ends in it
 pub part-bound : (p : Part) (start len : ℕ) → inPart p start len ≡ true → start + len ≤ p .end

@@ -20,6 +20,7 @@ use crate::refusal::Refusal;
 use crate::refusal::SEGMENT_TOO_SHORT;
 use crate::refusal::TAGGED_VERSION;
 use crate::refusal::UNTAGGED_VERSION;
+use mpa::Written;
 
 // The header of a tagged segment. control is the byte that RDMAP keeps there, and is only passed on.
 pub struct TaggedHeader {
@@ -44,12 +45,6 @@ pub enum HeaderRead {
     Tagged(TaggedHeader),
     Untagged(UntaggedHeader),
     Refused(Refusal),
-}
-
-// A writer answers its length, or the number of the refusal.
-pub enum Written {
-    Length(usize),
-    Refused(u8),
 }
 
 // Whether L is set in the first byte.

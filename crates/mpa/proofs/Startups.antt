@@ -10,7 +10,7 @@ use lib.ListN.{length, getD, take, drop, length-append}
 use lib.Seq.{take-at}
 use borrow.Author.Tests.{ltb-false, leb-true, leb-false, eqb-true, le-ltb, le-leb}
 use Rattle.wire.specs.Wire.{pick, both, same, part, be16, be16At}
-use Rattle.wire.proofs.Laws.{Bytes, be16-be16At, part-add, part-one, length-part, same-refl, same-eq}
+use Rattle.wire.proofs.Laws.{Bytes, be16-be16At, part-add, part-one, length-part, same-refl, same-eq, both-true}
 use Rattle.mpa.specs.Startup.{maxPrivate, keyOf, flagsOf, flagM, flagC, flagR, startupOf, startupWritten, startupOut, headRight, startupTaken, startupRead}
 use Rattle.mpa.specs.Fpdu.{outAfter}
 use Rattle.mpa.specs.declared.Written.{Written}
@@ -70,19 +70,20 @@ pub record Admitted (reply r : Bool) (n room k : ℕ) : Type 0 where
   pub total : 20 + n ≡ k
   pub within : k ≤ room
 
+-- where R is not that of a request, it counts as it is
+counts : (reply x : Bool) → both (not reply) x ≡ false → both reply x ≡ x
+counts true x e = refl
+counts false x e = sym e
+
 pub admitted : (reply r : Bool) (n room k : ℕ) → startupWritten reply r n room ≡ Length k → Admitted reply r n room k
 unfolding startupWritten
 admitted reply r n room k = asked (both (not reply) r) refl
   where
-    told : (p x : Bool) → both (not p) x ≡ false → both p x ≡ x
-    told true x e = refl
-    told false x e = sym e
-
     held : (b : Bool) → ltb room (20 + n) ≡ b → pick b (NotWritten 13) (Length (20 + n)) ≡ Length k → both (not reply) r ≡ false → n ≤ maxPrivate → Admitted reply r n room k
     held true h e d l = absurd (let z : _≡_ {A = ℕ} 0 1 = cc in omega arith)
     held false h e d l =
         let t : 20 + n ≡ k = cc in
-        record { told = told reply r d; short = l; total = t; within = subst (λ (x : ℕ). x ≤ room) t (ltb-false room (20 + n) h) }
+        record { told = counts reply r d; short = l; total = t; within = subst (λ (x : ℕ). x ≤ room) t (ltb-false room (20 + n) h) }
 
     over : (b : Bool) → ltb maxPrivate n ≡ b → pick b (NotWritten 12) (pick (ltb room (20 + n)) (NotWritten 13) (Length (20 + n))) ≡ Length k → both (not reply) r ≡ false → Admitted reply r n room k
     over true h e d = absurd (let z : _≡_ {A = ℕ} 0 1 = cc in omega arith)
@@ -120,10 +121,6 @@ pub record Started (reply : Bool) (bytes : List ℕ) (t : ℕ) (c r : Bool) (s n
   pub total : 20 + n ≡ t
   pub start : s ≡ 20
   pub whole : 20 + n ≤ length bytes
-
-both-true : (a b : Bool) → both a b ≡ true → (a ≡ true) × (b ≡ true)
-both-true true b e = (refl, e)
-both-true false b e = absurd (let z : _≡_ {A = ℕ} 0 1 = cc in omega arith)
 
 module _ (reply : Bool) (bytes : List ℕ) (t : ℕ) (c r : Bool) (s n : ℕ) where
   abbrev f : ℕ
@@ -182,11 +179,6 @@ flags-are f h e = go (f / 32) (omega arith)
     go (suc (suc (suc zero))) d = subst (λ (x : ℕ). x ≡ flagsOf (flagC x) (flagR x)) (sym d) refl
     go (suc (suc (suc (suc q)))) d = absurd (omega arith)
 
--- R of a request, which is not looked at, is clear, or R is a reply's
-declines : (reply x r : Bool) → both reply x ≡ r → both (not reply) x ≡ false → x ≡ r
-declines true x r e d = e
-declines false x r e d = d ∙ e
-
 -- a taken frame whose reserved bits are zero, R of a request among them, is the one that we would write of what was taken
 module _ (reply : Bool) (bytes : List ℕ) (b : Bytes bytes) (t : ℕ) (c r : Bool) (s n : ℕ) (q : startupRead reply bytes ≡ Taken t c r s n) where
   k : Started reply bytes t c r s n
@@ -197,7 +189,7 @@ module _ (reply : Bool) (bytes : List ℕ) (b : Bytes bytes) (t : ℕ) (c r : Bo
     size = length-part bytes 20 n (k .whole)
 
     flags-there : getD bytes 16 0 ≡ flagsOf c r
-    flags-there = flags-are (getD bytes 16 0) (k .unmarked) reserved ∙ ap₂ flagsOf (k .crc) (declines reply (flagR (getD bytes 16 0)) r (k .declined) request)
+    flags-there = flags-are (getD bytes 16 0) (k .unmarked) reserved ∙ ap₂ flagsOf (k .crc) (sym (counts reply (flagR (getD bytes 16 0)) request) ∙ k .declined)
 
     two : part bytes 16 2 ≡ flagsOf c r ∷ 1 ∷ []
     two =

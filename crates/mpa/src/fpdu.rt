@@ -13,7 +13,7 @@ use wire::number::get_le32;
 use wire::number::put_be16;
 use wire::number::put_le32;
 ghost use mathlib.Core.Path.{_≡_};
-ghost use Prim.Native.Nat.{_+_, _≤_, _<_};
+ghost use Prim.Native.Nat.{_+_, _^_, _≤_, _<_};
 ghost use lib.ListN.{length};
 ghost use Rattle.wire.specs.Wire.{put};
 ghost use Rattle.mpa.specs.Fpdu.{padOf, coveredOf, totalOf, covered, fpduOf, fpduWritten, fpduOut, crcRight, fpduReadOf, fpduRead};
@@ -23,7 +23,7 @@ pub const MAX_ULPDU: usize = 2048;
 
 // How many pad bytes follow a ULPDU of n bytes.
 fn pad_length(n: usize) -> usize
-    requires { ⌜ n < 65536 ⌝ }
+    requires { ⌜ n < 2 ^ 63 ⌝ }
     ensures { λ r. ⌜ (r ≡ padOf n) × (r < 4) ⌝ }
 {
     (4 - (2 + n) % 4) % 4
@@ -31,7 +31,7 @@ fn pad_length(n: usize) -> usize
 
 // How many bytes the CRC is over: length, ULPDU and pad.
 fn covered_length(n: usize) -> usize
-    requires { ⌜ n < 65536 ⌝ }
+    requires { ⌜ n < 2 ^ 63 ⌝ }
     ensures { λ r. ⌜ (r ≡ coveredOf n) × (r < n + 6) ⌝ }
 {
     2 + n + pad_length(n)
@@ -39,7 +39,7 @@ fn covered_length(n: usize) -> usize
 
 // How long the FPDU of a ULPDU of n bytes is.
 fn total_length(n: usize) -> usize
-    requires { ⌜ n < 65536 ⌝ }
+    requires { ⌜ n < 2 ^ 63 ⌝ }
     ensures { λ r. ⌜ r ≡ totalOf n ⌝ }
 {
     covered_length(n) + 4
@@ -72,11 +72,11 @@ fn write_whole(ulpdu: &[u8], out: &mut [u8])
 pub fn write_fpdu(ulpdu: &[u8], out: &mut [u8]) -> Written
     ensures { λ r. ⌜ (r ≡ fpduWritten (length (now (ulpdu .entry))) (length (now (out .entry)))) × (now (out .exit) ≡ fpduOut (now (ulpdu .entry)) (now (out .entry))) ⌝ }
 {
-    let n = ulpdu.len();
-    if MAX_ULPDU < n {
+    let size = ulpdu.len();
+    let total = total_length(size);
+    if MAX_ULPDU < size {
         return Written::Refused(OVER_LIMIT);
     }
-    let total = total_length(n);
     if out.len() < total {
         return Written::Refused(NO_ROOM);
     }

@@ -200,15 +200,15 @@ pub fn read_startup(reply: bool, bytes: &[u8]) -> StartupRead
     if bytes.len() < HEAD {
         return StartupRead::Wait(HEAD);
     }
-    if head_right(reply, bytes) {
-        if FLAG_M <= bytes[16] {
-            StartupRead::Refused(MARKERS)
-        } else {
-            taken(reply, bytes)
-        }
-    } else {
-        StartupRead::Refused(BAD_STARTUP)
+    let wrong = !head_right(reply, bytes);
+    let marked = FLAG_M <= bytes[16];
+    if wrong {
+        return StartupRead::Refused(BAD_STARTUP);
     }
+    if marked {
+        return StartupRead::Refused(MARKERS);
+    }
+    taken(reply, bytes)
 }
 
 // Whether the CRC is used, where each side has set C or not.

@@ -1,5 +1,5 @@
--- The twelve worked cases that the paper marks to be proved, as one table: what each gives, what it must give, and one test that
--- antt computes over the whole table.
+-- The twelve worked cases that the paper marks to be proved, and a slice of two FPDUs, as one table: what each gives, what it must
+-- give, and one test that antt computes over the whole table.
 -- Assumes nothing.
 use mathlib.Core.Path.{_≡_, refl}
 use mathlib.Core.Bool.{Bool, true, false}
@@ -9,7 +9,7 @@ use native.Mathlib.Omega.{arith}
 use native.Mathlib.Nat.{le-of-suc-le-suc, not-suc-le-zero}
 use lib.ListN.{length, getD, take, replicate}
 use Rattle.wire.specs.Wire.{both, same, put, be16, be32, be64}
-use Rattle.wire.proofs.Laws.{same-eq}
+use Rattle.wire.proofs.Laws.{both-true, same-eq}
 use Rattle.mpa.specs.Fpdu.{totalOf, fpduRead, fpduReadOf}
 use Rattle.mpa.specs.Startup.{startupOf}
 use Rattle.ddp.specs.Part.{inPart}
@@ -106,6 +106,9 @@ log =
     -- A 5-byte Send, buffer at 1,100: of 5 bytes, Taken 32; of 4, refusal 32
     ∷ gives (answer (rnicPosted (device 4) 4 1100 5 .rnic) 4 send) (2 ∷ 32 ∷ 1100 ∷ 5 ∷ 3 ∷ [])
     ∷ gives (answer (rnicPosted (device 4) 4 1100 4 .rnic) 4 send) (5 ∷ 32 ∷ 1 ∷ 2 ∷ 0x05 ∷ [])
+    -- "handles that first FPDU only": a second one in the slice, which would write other bytes at the same place, is not looked at
+    ∷ gives (answer (device 4) 4 (paper ++ write 0x1105 4096 (1 ∷ 2 ∷ 3 ∷ 4 ∷ []))) (1 ∷ 24 ∷ [])
+    ∷ gives (rnicReceivedStore (device 4) 4 (paper ++ write 0x1105 4096 (1 ∷ 2 ∷ 3 ∷ 4 ∷ [])) store) (put store 1024 beef)
     -- MSN 4,294,967,295 is followed by 0
     ∷ gives (nextMsn 4294967295 ∷ []) (0 ∷ [])
     -- Request, C set, data AB, whole
@@ -121,10 +124,6 @@ all (x ∷ xs) = both (same (x .got) (x .want)) (all xs)
 log-holds : all log ≡ true
 unfolding fpduRead fpduReadOf startupOf inPart inRange windowFits registered dropped named found wraps spanned posted poppedOf taggedFields untaggedFields taggedRead untaggedRead headerRead segmentRead taggedOf untaggedIn untaggedOf fits placed sendVerdict readVerdict terminateVerdict messageVerdict queuesOf opened postedOn domainOpened domainPosted domainRegistered domainDropped applied placedFrom appliedBytes domainReceived domainReceivedBytes openedRnic rnicOpened rnicPosted rnicRegistered rnicDropped receivedOwned receivedOwnedStore rnicReceived rnicReceivedStore
 log-holds = refl
-
-both-true : (a b : Bool) → both a b ≡ true → (a ≡ true) × (b ≡ true)
-both-true true b e = (refl, e)
-both-true false b e = absurd (let z : _≡_ {A = ℕ} 0 1 = cc in omega arith)
 
 -- so each case gives what it must
 each : (xs : List Check) → all xs ≡ true → (i : ℕ) → i < length xs → getD xs i (gives [] []) .got ≡ getD xs i (gives [] []) .want

@@ -16,6 +16,7 @@ use denote.Ref.{now}
 use borrow.Author.Tests.{leb-true, le-leb, eq-eqb, ne-eqb, eqb-true, eqb-false}
 use borrow.Rule.Slice.PartMut.{midOf, put-same, same-len-mid, mid-len}
 use Rattle.wire.specs.Wire.{pick, both}
+use Rattle.wire.proofs.Laws.{both-true}
 use Rattle.ddp.specs.Window.{liveCount, lowestFree}
 use Rattle.ddp.specs.declared.part.Outcome.the-variants.{Done, Refused as NotDone}
 use Rattle.domain.specs.Domain.{newDomain, domainOpened, domainClosed, domainPosted, domainTaken, domainRegistered, domainDropped, domainReceived, domainReceivedBytes}
@@ -404,17 +405,13 @@ module _ (A : ℕ) (hA : A < 4) where
           ap₂ (λ (x : Seen) (l : List Seen). x ∷ l) o (ih ∙ ap (λ (x : Seen). booked A (x .after) (mine A cs)) o)
       go false e ih = ih ∙ ap (λ v. booked A v (mine A cs)) (alien A hA w c a w₁ f (eqb-false (owner c) A e) s)
 
-  pub two-nights :
+  pub same-views :
       {w u w₁ u₁ : World} {cs ds : List Call} →
       Fit w → Fit u → view A w ≡ view A u → mine A cs ≡ mine A ds →
       (r : Run w cs w₁) (q : Run u ds u₁) → saw A r ≡ saw A q
-  two-nights fw fu v m r q = run-is fw r ∙ ap₂ (booked A) v m ∙ sym (run-is fu q)
+  same-views fw fu v m r q = run-is fw r ∙ ap₂ (booked A) v m ∙ sym (run-is fu q)
 
 -- ---- the opening
-both-true : (t u : Bool) → both t u ≡ true → (t ≡ true) × (u ≡ true)
-both-true true u e = (refl, e)
-both-true false u e = (e, (cc))
-
 -- what the contract's definition says of an opening that is accepted, and of one that is not
 abbrev openedBy : Opening → RnicDone
 openedBy o = openedRnic (o .len) (o .s₀) (o .e₀) (o .s₁) (o .e₁) (o .s₂) (o .e₂) (o .s₃) (o .e₃)
@@ -585,13 +582,13 @@ module _ (o : Opening) (mem : List ℕ) (w : World) (s : Opened o mem w) where
 
 -- Demand 3, about both whole lists from the opening on: two nights of the same opening that agree on the bytes of A's part and
 -- on A's calls show A the same, and what they show is A's book, fed the opening, those bytes and those calls alone.
-pub nights :
+pub two-nights :
     (A : ℕ) → A < 4 → (o : Opening) (mem mem′ : List ℕ) {w u w₁ u₁ : World} {cs ds : List Call} →
     Opened o mem w → Opened o mem′ u → firstBytes A o mem ≡ firstBytes A o mem′ → mine A cs ≡ mine A ds →
     (r : Run w cs w₁) (q : Run u ds u₁) →
     (saw A r ≡ saw A q) × (saw A r ≡ booked A (firstView A o (firstBytes A o mem)) (mine A cs))
-nights A hA o mem mem′ {w = w} {u = u} {cs = cs} x y b m r q =
+two-nights A hA o mem mem′ {w = w} {u = u} {cs = cs} x y b m r q =
     let v : view A w ≡ view A u = opened-view o mem w x A hA ∙ ap (firstView A o) b ∙ sym (opened-view o mem′ u y A hA) in (
-      two-nights A hA (opened-fit o mem w x) (opened-fit o mem′ u y) v m r q,
+      same-views A hA (opened-fit o mem w x) (opened-fit o mem′ u y) v m r q,
       run-is A hA (opened-fit o mem w x) r ∙ ap (λ (z : View). booked A z (mine A cs)) (opened-view o mem w x A hA),
     )

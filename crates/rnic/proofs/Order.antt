@@ -8,11 +8,8 @@ use native.Mathlib.Omega.{arith}
 use lib.Dec.{leb}
 use borrow.Author.Tests.{leb-true}
 use Rattle.wire.specs.Wire.{both}
+use Rattle.wire.proofs.Laws.{both-true}
 use Rattle.rnic.specs.Rnic.{inOrder}
-
-pub both-true : (a b : Bool) → both a b ≡ true → (a ≡ true) × (b ≡ true)
-both-true true b e = (refl, e)
-both-true false b e = absurd (let z : _≡_ {A = ℕ} 0 1 = cc in omega arith)
 
 -- one test of a chain
 step : (a b : ℕ) (t : Bool) → both (leb a b) t ≡ true → (a ≤ b) × (t ≡ true)

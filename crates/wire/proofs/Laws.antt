@@ -243,11 +243,13 @@ set-2 l i a b h = rw add-one (sets-eq (a ∷ b ∷ []) l i h ∙ append-assoc (t
 pub set-4 : (l : List ℕ) (i a b c d : ℕ) → i + 4 ≤ length l → set (set (set (set l i a) (i + 1) b) (i + 2) c) (i + 3) d ≡ put l i (a ∷ b ∷ c ∷ d ∷ [])
 set-4 l i a b c d h = rw (add-one, add-two, add-three) (sets-eq (a ∷ b ∷ c ∷ d ∷ []) l i h ∙ append-assoc (take i l) (a ∷ b ∷ c ∷ d ∷ []) (drop (i + 4) l))
 
--- ---- same
+-- ---- both
 
-both-true : (a b : Bool) → both a b ≡ true → (a ≡ true) × (b ≡ true)
+pub both-true : (a b : Bool) → both a b ≡ true → (a ≡ true) × (b ≡ true)
 both-true true b e = (refl, e)
 both-true false b e = let z : true ≡ false = sym e in (sym z, cc)
+
+-- ---- same
 
 pub same-refl : (l : List ℕ) → same l l ≡ true
 same-refl [] = refl

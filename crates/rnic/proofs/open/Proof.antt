@@ -5,7 +5,8 @@ use native.Mathlib.Omega.{arith}
 use lib.Dec.{leb}
 use borrow.Author.Tests.{leb-true}
 use Rattle.rnic.specs.Rnic.{openedRnic}
-use Rattle.rnic.proofs.Order.{both-true, Ordered, ordered}
+use Rattle.wire.proofs.Laws.{both-true}
+use Rattle.rnic.proofs.Order.{Ordered, ordered}
 use borrow.Author.Needs.{needs}
 use Rattle.rnic.proofs.open.Statement.{statement}
 use Rattle.rnic.proofs.open.Tie as tie
