@@ -1,5 +1,7 @@
 //! The numbered refusals: local ones, and faults of the peer with their Terminate codes.
 
+use std::fmt;
+
 /// A local refusal; its discriminant is its number.
 #[derive(Clone, Copy, Debug, PartialEq, Eq)]
 #[repr(u8)]
@@ -21,10 +23,10 @@ pub enum Refusal {
     Markers = 15,
 }
 
-impl Refusal {
-    /// Gives the refusal's number.
-    pub fn number(self) -> u8 {
-        self as u8
+impl fmt::Display for Refusal {
+    /// Writes the refusal's number.
+    fn fmt(&self, out: &mut fmt::Formatter) -> fmt::Result {
+        write!(out, "{}", *self as u8)
     }
 }
 
@@ -35,6 +37,19 @@ pub struct Fault {
     pub layer: u8,
     pub etype: u8,
     pub code: u8,
+}
+
+impl fmt::Display for Fault {
+    /// Writes the fault's number, layer, type and code.
+    fn fmt(&self, out: &mut fmt::Formatter) -> fmt::Result {
+        let Fault {
+            number,
+            layer,
+            etype,
+            code,
+        } = self;
+        write!(out, "{number} {layer}/{etype}/{code:02X}")
+    }
 }
 
 /// Names a fault's four values.
@@ -72,3 +87,51 @@ pub const SOURCE_NOT_LIVE: Fault = fault(38, 0, 1, 0x00);
 pub const SOURCE_WRAP: Fault = fault(38, 0, 1, 0x04);
 pub const SOURCE_BOUNDS: Fault = fault(38, 0, 1, 0x01);
 pub const NO_READ_RIGHT: Fault = fault(38, 0, 1, 0x02);
+
+/// Every local refusal, in the order of the numbers.
+pub const REFUSALS: [Refusal; 15] = [
+    Refusal::OutOfRange,
+    Refusal::LentLength,
+    Refusal::NotOpen,
+    Refusal::AlreadyOpen,
+    Refusal::Ended,
+    Refusal::WindowLive,
+    Refusal::WindowDead,
+    Refusal::KeyReused,
+    Refusal::Extent,
+    Refusal::BuffersFull,
+    Refusal::NoRead,
+    Refusal::TooLong,
+    Refusal::NoRoom,
+    Refusal::BadStartup,
+    Refusal::Markers,
+];
+
+/// Every fault, in the order of the numbers.
+pub const FAULTS: [Fault; 25] = [
+    ULPDU_TOO_LONG,
+    WRONG_CRC,
+    ULPDU_TOO_SHORT,
+    TAGGED_VERSION,
+    UNTAGGED_VERSION,
+    OTHER_DOMAIN,
+    INVALID_STAG,
+    TO_WRAP,
+    BOUNDS,
+    QUEUE_NUMBER,
+    MSN,
+    NO_BUFFER,
+    MO,
+    PAST_BUFFER,
+    RDMAP_VERSION,
+    OPCODE,
+    NO_WRITE_RIGHT,
+    INVALIDATE_OTHER_DOMAIN,
+    INVALIDATE_NOT_LIVE,
+    MALFORMED,
+    SOURCE_OTHER_DOMAIN,
+    SOURCE_NOT_LIVE,
+    SOURCE_WRAP,
+    SOURCE_BOUNDS,
+    NO_READ_RIGHT,
+];

@@ -7,7 +7,7 @@ use crate::device::Device;
 use crate::hex;
 use crate::mpa::{read_fpdu, write_fpdu, Frame};
 use crate::receive::{Answer, Event};
-use crate::refusal::{Fault, Refusal};
+use crate::refusal::Refusal;
 use crate::startup::{read_startup, write_startup, Startup};
 
 /// Bytes of the program's store.
@@ -184,12 +184,7 @@ fn answer_text(answer: Answer) -> String {
         Answer::Wait(total) => format!("wait {total}"),
         Answer::Taken { total, event } => format!("taken {total}{}", event_text(event)),
         Answer::Refused(refusal) => refused(refusal),
-        Answer::Fault(Fault {
-            number,
-            layer,
-            etype,
-            code,
-        }) => format!("refused {number} {layer}/{etype}/{code:02X}"),
+        Answer::Fault(fault) => format!("refused {fault}"),
     }
 }
 
@@ -215,7 +210,7 @@ fn event_text(event: Event) -> String {
 
 /// Writes a local refusal.
 fn refused(refusal: Refusal) -> String {
-    format!("refused {}", refusal.number())
+    format!("refused {refusal}")
 }
 
 /// Writes the answer of a call that gives nothing back.

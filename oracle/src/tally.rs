@@ -1,7 +1,9 @@
 //! A count of how often each kind of answer was given.
 
-use std::collections::BTreeMap;
+use std::collections::{BTreeMap, BTreeSet};
 use std::fmt;
+
+use crate::refusal::{FAULTS, REFUSALS};
 
 /// Counts by command word and kind of answer.
 #[derive(Clone, Debug, Default)]
@@ -32,6 +34,12 @@ impl Tally {
         let same = self.counts.iter().filter(|((_, k), _)| k == kind);
         same.map(|(_, count)| count).sum()
     }
+
+    /// Gives the kinds of answers that were given and do not refuse.
+    pub fn taken_kinds(&self) -> BTreeSet<&str> {
+        let kinds = self.counts.keys().map(|(_, kind)| kind.as_str());
+        kinds.filter(|kind| !kind.starts_with("refused")).collect()
+    }
 }
 
 impl fmt::Display for Tally {
@@ -49,6 +57,13 @@ fn command_word(line: &[u8]) -> String {
     let mut words = line.split(|&byte| byte == b' ');
     let word = words.find(|word| !word.is_empty()).unwrap_or(b"");
     String::from_utf8_lossy(word).into_owned()
+}
+
+/// Gives every answer that refuses, in the order of the numbers.
+pub fn refusals() -> Vec<String> {
+    let local = REFUSALS.iter().map(|refusal| format!("refused {refusal}"));
+    let faults = FAULTS.iter().map(|fault| format!("refused {fault}"));
+    local.chain(faults).collect()
 }
 
 /// Gives the words of an answer that are not values: a refusal is kept whole.

@@ -1,8 +1,9 @@
 //! The random scripts: the same for the same seed, and reaching every answer.
 
+use oracle::device::{DOMAINS, STREAMS_PER_DOMAIN};
 use oracle::generate::{frames, nights};
 use oracle::script::run;
-use oracle::tally::Tally;
+use oracle::tally::{refusals, Tally};
 
 /// Counts the answers to a script.
 fn tally(script: &[u8]) -> Tally {
@@ -60,42 +61,34 @@ fn nights_reach_every_answer() {
     assert!(script == night_script(7, 40_000));
     assert_eq!(script.iter().filter(|&&byte| byte == b'\n').count(), 40_000);
     let tally = tally(&script);
-    for number in 1..=11 {
-        let kind = format!("refused {number}");
-        assert!(tally.count_all(&kind) > 5, "{kind}");
+    for kind in ["wait", "taken", "taken send", "taken send stag"] {
+        assert!(tally.count("receive", kind) > 100, "{kind}");
     }
-    for kind in [
-        "wait",
-        "taken",
-        "taken send",
-        "taken send stag",
-        "taken terminate",
-        "refused 20 1/0/00",
-        "refused 21 2/0/02",
-        "refused 22 1/0/00",
-        "refused 23 1/1/04",
-        "refused 23 1/2/06",
-        "refused 24 1/1/02",
-        "refused 25 1/1/00",
-        "refused 26 1/1/03",
-        "refused 27 1/1/01",
-        "refused 28 1/2/01",
-        "refused 29 1/2/03",
-        "refused 30 1/2/02",
-        "refused 31 1/2/04",
-        "refused 32 1/2/05",
-        "refused 33 0/2/05",
-        "refused 34 0/2/06",
-        "refused 35 0/1/02",
-        "refused 36 0/1/03",
-        "refused 36 0/1/00",
-        "refused 37 0/2/FF",
-        "refused 38 0/1/03",
-        "refused 38 0/1/00",
-        "refused 38 0/1/04",
-        "refused 38 0/1/01",
-        "refused 38 0/1/02",
-    ] {
-        assert!(tally.count("receive", kind) > 5, "{kind}");
+    assert!(tally.count("receive", "taken terminate") > 100);
+    let writers: Vec<String> = (12..=15)
+        .map(|number| format!("refused {number}"))
+        .collect();
+    for kind in refusals().iter().filter(|kind| !writers.contains(kind)) {
+        assert!(tally.count_all(kind) > 5, "{kind}");
+    }
+}
+
+#[test]
+fn every_night_keeps_all_four_domains_busy() {
+    for seed in 1..=200 {
+        let mut taken = [0; DOMAINS];
+        run(
+            &night_script(seed, 500)[..],
+            std::io::sink(),
+            |line, answer| {
+                let words: Vec<&[u8]> = line.split(|&byte| byte == b' ').collect();
+                if words[0] == b"receive" && answer.starts_with("taken") {
+                    let stream: usize = String::from_utf8_lossy(words[1]).parse().unwrap();
+                    taken[stream / STREAMS_PER_DOMAIN] += 1;
+                }
+            },
+        )
+        .unwrap();
+        assert!(taken.iter().all(|&count| count > 0), "{seed}: {taken:?}");
     }
 }

@@ -44,24 +44,31 @@ fn spoil_target(prng: &mut Prng, device: &Device, stream: usize, kind: Kind, dra
     let slots = WINDOWS_PER_DOMAIN as u64;
     let reach = draft.reach();
     let choice = match kind {
-        Kind::Send => prng.pick(&[0, 0, 1, 2, 3]),
-        _ => prng.below(13),
+        Kind::Send => prng.pick(&[0, 0, 0, 1, 2, 3]),
+        _ => prng.pick(&[0, 0, 0, 1, 2, 3, 4, 5, 6, 7, 7, 8, 9, 9, 9]),
     };
     match choice {
-        0 => {
-            let others = (domain + prng.between(1, 3)) * slots + prng.below(slots);
-            let other = others % WINDOWS as u64;
-            draft.stag = stag(other, device.windows[other as usize].key);
-        }
+        0 => draft.stag = other_domain(prng, device, domain),
         1 => draft.stag = stag(prng.pick(&[64, 65, 80, 0x3FFF, 0xFF_FFFF]), window.key),
         2 => draft.stag ^= 1 << prng.below(8),
         3 => draft.stag = stag(domain * slots + prng.below(slots), prng.draw() as u8),
         4 => draft.to = window.base.wrapping_sub(1),
         5 => draft.to = (window.base + window.length - reach.min(window.length)).wrapping_add(1),
         6 => draft.to = 0u64.wrapping_sub(reach),
-        7 | 8 => draft.to = 0u64.wrapping_sub(reach).wrapping_add(1),
-        9 => draft.to = prng.draw(),
+        7 => draft.to = 0u64.wrapping_sub(reach).wrapping_add(1),
+        8 => draft.to = prng.draw(),
         _ => other_right(prng, device, stream, kind, draft),
+    }
+}
+
+/// Gives an STag of another domain's window, with its last key or, where it has had none, one that is often used.
+pub(super) fn other_domain(prng: &mut Prng, device: &Device, domain: u64) -> u32 {
+    let slots = WINDOWS_PER_DOMAIN as u64;
+    let slot = prng.below(slots).min(prng.below(slots));
+    let number = ((domain + prng.between(1, 3)) * slots + slot) % WINDOWS as u64;
+    match device.windows[number as usize].key {
+        0 => stag(number, prng.between(1, 4) as u8),
+        key => stag(number, key),
     }
 }
 

@@ -1,8 +1,10 @@
 //! Random scripts, the same for the same seed.
 
+mod calls;
 pub mod draft;
 mod faults;
 pub mod frames;
+pub mod interleave;
 pub mod malformed;
 pub mod nights;
 mod openings;

@@ -23,6 +23,25 @@ pub fn opening(prng: &mut Prng) -> String {
     if prng.percent(30) {
         break_rule(prng, length, &mut ends);
     }
+    line(length, &ends)
+}
+
+/// Gives a line that opens the box well, with at least 64 bytes for one domain.
+pub fn roomy_opening(prng: &mut Prng, domain: usize) -> String {
+    let length = prng.between(512, 8192);
+    loop {
+        let ends = match prng.percent(50) {
+            true => quarters(length),
+            false => scattered(prng, length),
+        };
+        if ends[2 * domain + 1] - ends[2 * domain] >= 64 {
+            return line(length, &ends);
+        }
+    }
+}
+
+/// Writes the line of an opening.
+fn line(length: u64, ends: &[u64]) -> String {
     let words: Vec<String> = ends.iter().map(u64::to_string).collect();
     format!("open {length} {}", words.join(" "))
 }

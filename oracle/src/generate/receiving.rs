@@ -1,26 +1,46 @@
 //! The receive calls of a night: single FPDUs, and several in one slice.
 
+use super::draft::{frame, Draft};
+use super::faults::other_domain;
 use super::nights::Night;
-use super::segments::{fpdu, kind, Kind};
-use crate::device::STREAMS;
+use super::segments::{fpdu, kind, live_window, Kind};
+use crate::device::{stream_domain, RIGHT_READ, RIGHT_WRITE, STREAMS};
 use crate::hex;
+use crate::rdmap;
 use crate::script::STORE;
 
 impl Night {
     /// Receives an FPDU that is most often good, now and then first cut, or with another store lent.
     pub(super) fn receive(&mut self, stream: usize) {
         let kind = kind(&mut self.prng);
-        if kind == Kind::Send && self.interpreter.device.streams[stream].buffers.is_empty() {
-            self.post(stream);
-        }
+        self.prepare(stream, kind);
         let bytes = fpdu(&mut self.prng, &self.interpreter.device, stream, kind, 16);
         if self.prng.percent(4) {
             let cut = &bytes[..self.prng.index(bytes.len().max(1))];
-            self.say(format!("receive {stream} {}", hex::encode(cut)).as_bytes());
+            let cut = hex::encode(cut);
+            self.say(format!("receive {stream} {cut}"));
         }
         let number = self.number(stream, STREAMS);
         let lent = self.lent();
-        self.say(format!("receive {number} {}{lent}", hex::encode(&bytes)).as_bytes());
+        self.say(format!("receive {number} {}{lent}", hex::encode(&bytes)));
+    }
+
+    /// Makes what a good FPDU of this kind needs, where it is not there: a buffer, a window, mostly room for a read.
+    fn prepare(&mut self, stream: usize, kind: Kind) {
+        let device = &self.interpreter.device;
+        let record = &device.streams[stream];
+        let right = match kind {
+            Kind::Send if record.buffers.is_empty() => return self.post(stream),
+            Kind::Read if record.reads.is_full() && self.prng.percent(80) => {
+                return self.numbered("take", stream, STREAMS);
+            }
+            Kind::Write => RIGHT_WRITE,
+            Kind::Read => RIGHT_READ,
+            _ => return,
+        };
+        if live_window(&mut self.prng, device, stream, right).is_none() {
+            self.register(stream_domain(stream), Some(right));
+        }
     }
 
     /// Gives the word of another lent length, or nothing.
@@ -43,14 +63,38 @@ impl Night {
     /// Receives a good FPDU of a kind.
     pub(super) fn receive_good(&mut self, stream: usize, kind: Kind) {
         let bytes = fpdu(&mut self.prng, &self.interpreter.device, stream, kind, 0);
-        self.say(format!("receive {stream} {}", hex::encode(&bytes)).as_bytes());
+        self.say(format!("receive {stream} {}", hex::encode(&bytes)));
+    }
+
+    /// Receives a Write that aims at another domain's window.
+    pub(super) fn probe(&mut self, stream: usize) {
+        let (prng, device) = (&mut self.prng, &self.interpreter.device);
+        let mut draft = Draft::new(true, rdmap::WRITE);
+        draft.stag = other_domain(prng, device, stream_domain(stream) as u64);
+        draft.payload = prng.bytes(1);
+        let bytes = frame(&draft.ulpdu(), 0);
+        self.say(format!("receive {stream} {}", hex::encode(&bytes)));
+    }
+
+    /// Takes a read, mostly one that waits.
+    pub(super) fn take(&mut self, stream: usize) {
+        let reads = &self.interpreter.device.streams[stream].reads;
+        if reads.is_empty() && self.prng.percent(85) {
+            self.prepare(stream, Kind::Read);
+            self.receive_good(stream, Kind::Read);
+        }
+        self.numbered("take", stream, STREAMS);
     }
 
     /// Receives several FPDUs of one slice, one call after the other.
     pub(super) fn batch(&mut self, stream: usize, faulty: u64) {
+        for kind in [Kind::Write, Kind::Send, Kind::Read] {
+            self.prepare(stream, kind);
+        }
+        (0..2).for_each(|_| self.post(stream));
         let mut slice = self.batch_bytes(stream, faulty);
         while !slice.is_empty() && self.left > 0 {
-            let answer = self.say(format!("receive {stream} {}", hex::encode(&slice)).as_bytes());
+            let answer = self.say(format!("receive {stream} {}", hex::encode(&slice)));
             let mut words = answer.split(' ');
             match (words.next(), words.next().map(str::parse::<usize>)) {
                 (Some("taken"), Some(Ok(total))) => slice.drain(..total),

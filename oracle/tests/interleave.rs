@@ -1,0 +1,144 @@
+//! One domain's calls among those of two different nights: the answers are the same, and a device in which another's
+//! call reaches the domain is found out.
+
+use oracle::device::{Condition, DOMAINS, STREAMS, STREAMS_PER_DOMAIN, WINDOWS_PER_DOMAIN};
+use oracle::generate::interleave::{write_script, OWN};
+use oracle::script::{Interpreter, STORE};
+
+/// A flaw of a device: what it does and answers in place of this answer, the line's words being at hand.
+type Flaw = fn(&mut Interpreter, &[&str], String) -> String;
+
+/// Gives the lines of a script, and of each whether it is the domain's own.
+fn lines(seed: u64, domain: usize, others: u64) -> Vec<(bool, String)> {
+    let mut script = Vec::new();
+    write_script(seed, domain, 200, others, &mut script).unwrap();
+    let text = String::from_utf8(script).unwrap();
+    let mut own = false;
+    let mut lines = Vec::new();
+    for line in text.lines() {
+        if line != OWN {
+            lines.push((own, String::from(line)));
+        }
+        own = line == OWN;
+    }
+    lines
+}
+
+/// Runs a script on a device with this flaw, and gives the answers to the domain's own calls.
+fn own_answers(lines: &[(bool, String)], flaw: Flaw) -> Vec<String> {
+    let mut interpreter = Interpreter::default();
+    let mut answers = Vec::new();
+    for (own, line) in lines {
+        let answer = interpreter.run_line(line.as_bytes()).unwrap();
+        let words: Vec<&str> = line.split(' ').collect();
+        let answer = flaw(&mut interpreter, &words, answer);
+        if *own {
+            answers.push(answer);
+        }
+    }
+    answers
+}
+
+/// Counts the trials, of three for each domain, in which the domain's answers differ between two nights.
+fn found(flaw: Flaw) -> usize {
+    let trials = (0..DOMAINS).flat_map(|domain| (1..=3).map(move |seed| (seed, domain)));
+    let differ = |&(seed, domain): &(u64, usize)| {
+        let [first, second] = [1, 2].map(|others| own_answers(&lines(seed, domain, others), flaw));
+        first != second
+    };
+    trials.filter(differ).count()
+}
+
+/// Gives the owner of the stream that a receive names, where its FPDU was taken.
+fn taken_for(words: &[&str], answer: &str) -> Option<usize> {
+    let stream: usize = words.get(1)?.parse().ok()?;
+    (words[0] == "receive" && answer.starts_with("taken")).then_some(stream / STREAMS_PER_DOMAIN)
+}
+
+/// Answers as it should.
+fn sound(_: &mut Interpreter, _: &[&str], answer: String) -> String {
+    answer
+}
+
+/// Asks whether a window is live before it asks whose it is.
+fn live_before_whose(interpreter: &mut Interpreter, words: &[&str], answer: String) -> String {
+    if !answer.starts_with("refused 24") {
+        return answer;
+    }
+    let stag = u32::from_str_radix(&words[2][8..16], 16).unwrap();
+    let window = interpreter.device.windows[(stag >> 8) as usize];
+    match window.live && window.key == stag as u8 {
+        true => answer,
+        false => String::from("refused 25 1/1/00"),
+    }
+}
+
+/// Picks window numbers from one common free list.
+fn common_free_list(interpreter: &mut Interpreter, words: &[&str], answer: String) -> String {
+    if !answer.starts_with("free") || words[0] != "free" {
+        return answer;
+    }
+    let windows = &interpreter.device.windows;
+    let live = |slot: &usize| (0..DOMAINS).any(|d| windows[d * WINDOWS_PER_DOMAIN + slot].live);
+    let slot = (0..WINDOWS_PER_DOMAIN).find(|slot| !live(slot));
+    format!("free {}", slot.unwrap_or(WINDOWS_PER_DOMAIN))
+}
+
+/// Writes one byte past the part for each FPDU taken.
+fn byte_past_the_part(interpreter: &mut Interpreter, words: &[&str], answer: String) -> String {
+    if let Some(domain) = taken_for(words, &answer) {
+        let past = interpreter.device.parts[domain].end as usize;
+        if past < STORE {
+            interpreter.store[past] ^= 0xFF;
+        }
+    }
+    answer
+}
+
+/// Ends the next domain's stream too where a stream ends.
+fn ends_another_stream(interpreter: &mut Interpreter, words: &[&str], answer: String) -> String {
+    if words[0] == "receive" && answer.contains('/') {
+        let stream: usize = words[1].parse().unwrap();
+        let other = &mut interpreter.device.streams[(stream + STREAMS_PER_DOMAIN) % STREAMS];
+        if other.condition == Condition::Open {
+            other.condition = Condition::Terminated;
+        }
+    }
+    answer
+}
+
+#[test]
+fn own_calls_are_the_same_and_the_others_differ() {
+    let nights = [0, 1, 2].map(|others| lines(5, 2, others));
+    let part = |night: &[(bool, String)], own| -> Vec<String> {
+        let chosen = night.iter().filter(|(mine, _)| *mine == own);
+        chosen.map(|(_, line)| line.clone()).collect()
+    };
+    assert_eq!(part(&nights[0], true), part(&nights[1], true));
+    assert_eq!(part(&nights[1], true), part(&nights[2], true));
+    assert_eq!(part(&nights[0], false).len(), 1);
+    assert!(part(&nights[1], false).len() > 300);
+    assert!(part(&nights[1], false) != part(&nights[2], false));
+}
+
+#[test]
+fn alone_or_among_others_the_answers_are_the_same() {
+    assert_eq!(found(sound), 0);
+    let alone = own_answers(&lines(5, 2, 0), sound);
+    assert_eq!(alone, own_answers(&lines(5, 2, 1), sound));
+    assert!(alone.iter().any(|answer| answer.starts_with("taken")));
+}
+
+#[test]
+fn flaws_are_found() {
+    for (name, flaw) in [
+        ("live before whose", live_before_whose as Flaw),
+        ("common free list", common_free_list),
+        ("byte past the part", byte_past_the_part),
+        ("ends another stream", ends_another_stream),
+    ] {
+        let found = found(flaw);
+        println!("{name}: {found} of 12");
+        assert!(found > 0, "{name}");
+    }
+}
