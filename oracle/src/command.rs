@@ -1,8 +1,9 @@
 //! The lines of a script, taken apart into commands.
 
-use crate::device::{Part, DOMAINS};
 use crate::hex;
 use crate::startup::Role;
+use crate::state::{Part, DOMAINS};
+use crate::words::{bit, number, on_off, parts, role};
 
 /// The longest line, its newline not counted.
 pub const MAX_LINE: usize = 65_536;
@@ -181,54 +182,4 @@ fn frame_command(words: &[&[u8]]) -> Option<Command> {
         },
         _ => return None,
     })
-}
-
-/// Reads a number of 0 to 2^64 - 1.
-fn number(word: &[u8]) -> Option<u64> {
-    word.iter().try_fold(0u64, |value, byte| {
-        if !byte.is_ascii_digit() {
-            return None;
-        }
-        value.checked_mul(10)?.checked_add(u64::from(byte - b'0'))
-    })
-}
-
-/// Reads the starts and ends of the four parts.
-fn parts(words: &[&[u8]]) -> Option<[Part; DOMAINS]> {
-    if words.len() != 2 * DOMAINS {
-        return None;
-    }
-    let mut parts = [Part::default(); DOMAINS];
-    for (part, ends) in parts.iter_mut().zip(words.chunks_exact(2)) {
-        part.start = number(ends[0])?;
-        part.end = number(ends[1])?;
-    }
-    Some(parts)
-}
-
-/// Reads `on` or `off`.
-fn on_off(word: &[u8]) -> Option<bool> {
-    match word {
-        b"on" => Some(true),
-        b"off" => Some(false),
-        _ => None,
-    }
-}
-
-/// Reads `0` or `1`.
-fn bit(word: &[u8]) -> Option<bool> {
-    match word {
-        b"0" => Some(false),
-        b"1" => Some(true),
-        _ => None,
-    }
-}
-
-/// Reads `req` or `rep`.
-fn role(word: &[u8]) -> Option<Role> {
-    match word {
-        b"req" => Some(Role::Request),
-        b"rep" => Some(Role::Reply),
-        _ => None,
-    }
 }

@@ -1,10 +1,10 @@
 //! The rules asked of a ULPDU: nothing here changes the state.
 
 use crate::ddp::{read_segment, Header, Segment};
-use crate::device::{stream_domain, window_domain, Device, Window};
-use crate::device::{RIGHT_READ, RIGHT_WRITE, WINDOWS};
 use crate::rdmap::{self, ReadRequest, Terminate};
 use crate::refusal::{self as no, Fault};
+use crate::state::{Device, RIGHT_READ, RIGHT_WRITE};
+use crate::target::{check_range, RangeError, StagError};
 
 /// The effects of an FPDU that has passed every rule.
 pub(crate) enum Effect<'a> {
@@ -21,18 +21,6 @@ pub(crate) enum Effect<'a> {
     },
     Read(ReadRequest),
     Terminate(Terminate),
-}
-
-/// Why an STag names no window of the stream's domain.
-enum StagError {
-    OtherDomain,
-    NotLive,
-}
-
-/// Why a range of tagged offsets is not inside a window.
-enum RangeError {
-    Wrap,
-    Outside,
 }
 
 impl Device {
@@ -193,23 +181,6 @@ impl Device {
         }
         Ok(())
     }
-
-    /// Finds the live window that an STag names, asking first whose it is.
-    fn window(&self, stream: usize, stag: u32) -> Result<&Window, StagError> {
-        let number = (stag >> 8) as usize;
-        if number >= WINDOWS {
-            return Err(StagError::NotLive);
-        }
-        if window_domain(number) != stream_domain(stream) {
-            return Err(StagError::OtherDomain);
-        }
-        let window = &self.windows[number];
-        if window.live && window.key == stag as u8 {
-            Ok(window)
-        } else {
-            Err(StagError::NotLive)
-        }
-    }
 }
 
 /// Judges an RDMAP control byte: its version, then whether its opcode fits.
@@ -223,16 +194,4 @@ fn judge_control(control: u8, fits: impl Fn(u8) -> bool) -> Result<u8, Fault> {
     } else {
         Err(no::OPCODE)
     }
-}
-
-/// Asks whether `length` bytes from tagged offset `to` lie inside a window, computed with the carry.
-fn check_range(window: &Window, to: u64, length: u64) -> Result<(), RangeError> {
-    let end = u128::from(to) + u128::from(length);
-    if end > 1 << 64 {
-        return Err(RangeError::Wrap);
-    }
-    if to < window.base || end > u128::from(window.base) + u128::from(window.length) {
-        return Err(RangeError::Outside);
-    }
-    Ok(())
 }

@@ -1,10 +1,10 @@
 //! Receive: one FPDU is judged whole, and only then are its effects applied.
 
-use crate::device::{Condition, Device, Stream, STREAMS};
 use crate::judge::Effect;
 use crate::mpa::{read_fpdu, Frame};
 use crate::rdmap::{self, Terminate};
 use crate::refusal::{Fault, Refusal};
+use crate::state::{Condition, Device, Stream, STREAMS};
 
 /// What receive answers.
 #[derive(Clone, Copy, Debug, PartialEq, Eq)]

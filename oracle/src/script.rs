@@ -3,12 +3,12 @@
 use std::io::{self, BufRead, Write};
 
 use crate::command::{parse, Command, Line};
-use crate::device::Device;
 use crate::hex;
 use crate::mpa::{read_fpdu, write_fpdu, Frame};
-use crate::receive::{Answer, Event};
 use crate::refusal::Refusal;
 use crate::startup::{read_startup, write_startup, Startup};
+use crate::state::Device;
+use crate::text::{answer_text, bad, done, read_text, refused};
 
 /// Bytes of the program's store.
 pub const STORE: usize = 1_048_576;
@@ -80,13 +80,7 @@ impl Interpreter {
                 bytes,
                 lent,
             } => self.receive(stream, &bytes, lent),
-            Command::Take(stream) => {
-                let read = device.take_read(stream)?;
-                format!(
-                    "read {} {} {} {} {}",
-                    read.sink_stag, read.sink_to, read.size, read.source_stag, read.source_to
-                )
-            }
+            Command::Take(stream) => read_text(device.take_read(stream)?),
             Command::Live(domain) => format!("live {}", device.live(domain)?),
             Command::Free(domain) => format!("free {}", device.free(domain)?),
             Command::Bytes { start, length } => self.show(start, length),
@@ -176,51 +170,6 @@ fn wrote(
 fn store_range(start: u64, length: u64) -> Option<std::ops::Range<usize>> {
     let end = start.checked_add(length)?;
     (end <= STORE as u64).then_some(start as usize..end as usize)
-}
-
-/// Writes what receive answers.
-fn answer_text(answer: Answer) -> String {
-    match answer {
-        Answer::Wait(total) => format!("wait {total}"),
-        Answer::Taken { total, event } => format!("taken {total}{}", event_text(event)),
-        Answer::Refused(refusal) => refused(refusal),
-        Answer::Fault(fault) => format!("refused {fault}"),
-    }
-}
-
-/// Writes an event, a space before it where there is one.
-fn event_text(event: Event) -> String {
-    match event {
-        Event::None => String::new(),
-        Event::Send {
-            start,
-            length,
-            opcode,
-            invalidated,
-        } => {
-            let stag = invalidated.map_or(String::new(), |stag| format!(" stag {stag}"));
-            format!(" send {start} {length} {opcode}{stag}")
-        }
-        Event::Terminate(terminate) => format!(
-            " terminate {} {} {}",
-            terminate.layer, terminate.etype, terminate.code
-        ),
-    }
-}
-
-/// Writes a local refusal.
-fn refused(refusal: Refusal) -> String {
-    format!("refused {refusal}")
-}
-
-/// Writes the answer of a call that gives nothing back.
-fn done(result: Result<(), Refusal>) -> Result<String, Refusal> {
-    result.map(|()| String::from("done"))
-}
-
-/// Writes the answer to a line that is no command.
-fn bad() -> String {
-    String::from("bad")
 }
 
 /// Runs a whole script; `watch` is shown each line with its answer.

@@ -1,8 +1,8 @@
 //! The random scripts: the same for the same seed, and reaching every answer.
 
-use oracle::device::{DOMAINS, STREAMS_PER_DOMAIN};
 use oracle::generate::{frames, nights};
 use oracle::script::run;
+use oracle::state::{DOMAINS, STREAMS_PER_DOMAIN};
 use oracle::tally::{refusals, Tally};
 
 /// Counts the answers to a script.

@@ -1,9 +1,9 @@
 //! One domain's calls among those of two different nights: the answers are the same, and a device in which another's
 //! call reaches the domain is found out.
 
-use oracle::device::{Condition, DOMAINS, STREAMS, STREAMS_PER_DOMAIN, WINDOWS_PER_DOMAIN};
 use oracle::generate::interleave::{write_script, OWN};
 use oracle::script::{Interpreter, STORE};
+use oracle::state::{Condition, DOMAINS, STREAMS, STREAMS_PER_DOMAIN, WINDOWS_PER_DOMAIN};
 
 /// A flaw of a device: what it does and answers in place of this answer, the line's words being at hand.
 type Flaw = fn(&mut Interpreter, &[&str], String) -> String;

@@ -1,11 +1,11 @@
 //! The lines of one night's log and the annotated dumps of the MPA standard.
 
 use oracle::crc::{crc32c_bitwise, crc_field};
-use oracle::device::{Device, Part};
 use oracle::hex;
 use oracle::mpa::fpdu_total;
 use oracle::receive::Answer;
 use oracle::script::Interpreter;
+use oracle::state::{Device, Part};
 
 const SCENE: [&str; 3] = [
     "open 4096 0 1024 1024 2048 2048 3072 3072 4096",

@@ -1,10 +1,10 @@
 //! Messages of several segments, invalidation, reads and their limits.
 
-use oracle::device::{Condition, Device, Part};
 use oracle::generate::draft::{frame, Draft, Sink};
 use oracle::rdmap::{READ_REQUEST, TERMINATE};
 use oracle::receive::{Answer, Event};
 use oracle::refusal;
+use oracle::state::{Condition, Device, Part};
 
 /// A device with a store, whose stream 0 is open.
 struct Bench {

@@ -6,8 +6,8 @@ use std::env;
 use std::io::{self, BufWriter};
 use std::process::ExitCode;
 
-use oracle::device::DOMAINS;
 use oracle::generate::interleave;
+use oracle::state::DOMAINS;
 
 /// Writes the script that the arguments ask for to standard output.
 fn main() -> ExitCode {

@@ -2,9 +2,9 @@
 
 use super::malformed::malform;
 use super::nights::Night;
-use crate::device::{stream_domain, Part, STREAMS, WINDOWS, WINDOWS_PER_DOMAIN};
 use crate::hex;
 use crate::script::STORE;
+use crate::state::{stream_domain, Part, STREAMS, WINDOWS, WINDOWS_PER_DOMAIN};
 
 impl Night {
     /// Calls with a number, which is now and then out of range.

@@ -3,10 +3,10 @@
 use super::draft::{frame, Draft};
 use super::prng::Prng;
 use super::segments::{inside, live_window, stag, Kind};
-use crate::device::{stream_domain, Device, RIGHT_READ, RIGHT_WRITE};
-use crate::device::{WINDOWS, WINDOWS_PER_DOMAIN};
 use crate::mpa::{CRC_FIELD, LENGTH_FIELD};
 use crate::rdmap;
+use crate::state::{stream_domain, Device, RIGHT_READ, RIGHT_WRITE};
+use crate::state::{WINDOWS, WINDOWS_PER_DOMAIN};
 
 /// Sets one field of a draft wrong.
 pub(super) fn spoil(

@@ -4,10 +4,10 @@ use std::io::{self, Write};
 
 use super::malformed::{long_line, malform};
 use super::prng::Prng;
+use super::startups::{startup, unstartup};
 use crate::crc::crc_field;
 use crate::hex;
 use crate::mpa::{fpdu_total, CRC_FIELD, LENGTH_FIELD, MAX_ULPDU};
-use crate::startup::{Role, HEADER, MAX_PRIVATE_DATA};
 
 /// Writes a script of `count` lines.
 pub fn write_script(seed: u64, count: u64, mut out: impl Write) -> io::Result<()> {
@@ -51,7 +51,7 @@ fn ulpdu_length(prng: &mut Prng, short: bool) -> usize {
 }
 
 /// Gives a slice's length near what is needed.
-fn room(prng: &mut Prng, needed: usize) -> u64 {
+pub(super) fn room(prng: &mut Prng, needed: usize) -> u64 {
     let needed = needed as u64;
     match prng.below(12) {
         0..=3 => needed,
@@ -66,7 +66,7 @@ fn room(prng: &mut Prng, needed: usize) -> u64 {
 }
 
 /// Writes bytes in hex of either case.
-fn hex_word(prng: &mut Prng, bytes: &[u8]) -> String {
+pub(super) fn hex_word(prng: &mut Prng, bytes: &[u8]) -> String {
     let word = hex::encode(bytes);
     if prng.percent(10) {
         word.to_ascii_uppercase()
@@ -131,13 +131,13 @@ fn good_fpdu(prng: &mut Prng, length: usize, odd_pad: bool) -> Vec<u8> {
 }
 
 /// Flips one bit.
-fn flip_bit(prng: &mut Prng, bytes: &mut [u8]) {
+pub(super) fn flip_bit(prng: &mut Prng, bytes: &mut [u8]) {
     let at = prng.index(bytes.len());
     bytes[at] ^= 1 << prng.below(8);
 }
 
 /// Puts some bytes behind.
-fn append(prng: &mut Prng, bytes: &mut Vec<u8>) {
+pub(super) fn append(prng: &mut Prng, bytes: &mut Vec<u8>) {
     let count = prng.index(12) + 1;
     bytes.extend(prng.bytes(count));
 }
@@ -149,79 +149,5 @@ fn spoil_crc(prng: &mut Prng, frame: &mut [u8]) {
         0 => frame[at..].copy_from_slice(&prng.bytes(CRC_FIELD)),
         1 => frame[at..].fill(0),
         _ => frame[at..].reverse(),
-    }
-}
-
-/// Gives a length of private data.
-fn data_length(prng: &mut Prng, short: bool) -> usize {
-    let length = match prng.below(100) {
-        _ if short => prng.below(9),
-        0..=79 => prng.below(24),
-        80..=89 => prng.between(510, 514),
-        90..=97 => prng.below(530),
-        _ => prng.below(1500),
-    };
-    length as usize
-}
-
-/// Names the role in a script.
-fn role_word(role: Role) -> &'static str {
-    match role {
-        Role::Request => "req",
-        Role::Reply => "rep",
-    }
-}
-
-/// Gives a line that writes a startup frame.
-fn startup(prng: &mut Prng, short: bool) -> String {
-    let role = prng.pick(&["req", "req", "rep"]);
-    let (crc, reject) = (prng.below(2), u8::from(prng.percent(35)));
-    let length = data_length(prng, short);
-    let data = prng.bytes(length);
-    let room = room(prng, HEADER + length);
-    let data = hex_word(prng, &data);
-    format!("startup {role} {crc} {reject} {data} {room}")
-}
-
-/// Gives a line that reads a startup frame, good or damaged in one place or two.
-fn unstartup(prng: &mut Prng, short: bool) -> String {
-    let role = prng.pick(&[Role::Request, Role::Reply]);
-    let length = data_length(prng, short);
-    let mut frame = role.key().to_vec();
-    frame.extend([prng.draw() as u8 & 0x60, 1]);
-    frame.extend((length as u16).to_be_bytes());
-    frame.extend(prng.bytes(length));
-    for _ in 0..prng.pick(&[0, 1, 1, 1, 1, 2]) {
-        damage_startup(prng, &mut frame);
-    }
-    let frame = hex_word(prng, &frame);
-    let expected = match prng.percent(8) {
-        true => prng.pick(&["req", "rep"]),
-        false => role_word(role),
-    };
-    format!("unstartup {expected} {frame}")
-}
-
-/// Damages a startup frame in one place.
-fn damage_startup(prng: &mut Prng, frame: &mut Vec<u8>) {
-    if frame.len() < HEADER {
-        return;
-    }
-    match prng.below(12) {
-        0 => flip_bit(prng, &mut frame[..16]),
-        1 => flip_bit(prng, frame),
-        2 => frame[17] = prng.pick(&[0, 2, 3, 0x81, 0xFF]),
-        3 => frame[16] |= 0x80,
-        4 => frame[16] = prng.draw() as u8,
-        5 => frame[16] |= 0x1F,
-        6 | 7 => {
-            let limit = MAX_PRIVATE_DATA as u16;
-            let length = prng.pick(&[0, 1, limit - 1, limit, limit + 1, 0x8000, 0xFFFF]);
-            frame[18..HEADER].copy_from_slice(&length.to_be_bytes());
-        }
-        8 => frame.truncate(prng.index(frame.len())),
-        9 => frame.truncate(prng.between(18, 21) as usize),
-        10 => drop(frame.pop()),
-        _ => append(prng, frame),
     }
 }

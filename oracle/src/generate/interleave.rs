@@ -5,8 +5,8 @@ use std::io::{self, Write};
 use super::nights::Night;
 use super::openings::roomy_opening;
 use super::prng::Prng;
-use crate::device::{DOMAINS, STREAMS_PER_DOMAIN};
 use crate::hex;
+use crate::state::{DOMAINS, STREAMS_PER_DOMAIN};
 
 /// The comment before each of the domain's own calls.
 pub const OWN: &str = "# own";

@@ -11,3 +11,4 @@ mod openings;
 pub mod prng;
 mod receiving;
 pub mod segments;
+mod startups;

@@ -5,9 +5,9 @@ use std::io::{self, Write};
 use super::openings::opening;
 use super::prng::Prng;
 use super::segments::Kind;
-use crate::device::{stream_domain, Condition};
-use crate::device::{DOMAINS, STREAMS, STREAMS_PER_DOMAIN};
 use crate::script::{Interpreter, STORE};
+use crate::state::{stream_domain, Condition};
+use crate::state::{DOMAINS, STREAMS, STREAMS_PER_DOMAIN};
 
 /// Every domain.
 const EVERY: [usize; DOMAINS] = [0, 1, 2, 3];

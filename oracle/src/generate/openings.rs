@@ -1,7 +1,7 @@
 //! Openings of the box: most of them good, some refused.
 
 use super::prng::Prng;
-use crate::device::{DOMAINS, MAX_STORE};
+use crate::state::{DOMAINS, MAX_STORE};
 
 /// Gives a line that opens the box.
 pub fn opening(prng: &mut Prng) -> String {

@@ -4,10 +4,10 @@ use super::draft::{frame, Draft};
 use super::faults::other_domain;
 use super::nights::Night;
 use super::segments::{fpdu, kind, live_window, Kind};
-use crate::device::{stream_domain, RIGHT_READ, RIGHT_WRITE, STREAMS};
 use crate::hex;
 use crate::rdmap;
 use crate::script::STORE;
+use crate::state::{stream_domain, RIGHT_READ, RIGHT_WRITE, STREAMS};
 
 impl Night {
     /// Receives an FPDU that is most often good, now and then first cut, or with another store lent.

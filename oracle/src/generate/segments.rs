@@ -3,9 +3,9 @@
 use super::draft::{frame, Draft, Sink};
 use super::faults::{damage, spoil};
 use super::prng::Prng;
-use crate::device::{stream_domain, Device, Window};
-use crate::device::{RIGHT_READ, RIGHT_WRITE, WINDOWS_PER_DOMAIN};
 use crate::rdmap;
+use crate::state::{stream_domain, Device, Window};
+use crate::state::{RIGHT_READ, RIGHT_WRITE, WINDOWS_PER_DOMAIN};
 
 /// What a segment is to carry.
 #[derive(Clone, Copy, Debug, PartialEq, Eq)]

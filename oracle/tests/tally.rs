@@ -1,0 +1,45 @@
+//! The program `tally`: it fails where one refusal of all was given too seldom.
+
+use std::io::Write;
+use std::process::{Command, Stdio};
+
+use oracle::tally::refusals;
+
+/// Runs `tally 2` on some answers, and gives whether it succeeds and what it writes to standard error.
+fn tally(answers: &str) -> (bool, String) {
+    let mut child = Command::new(env!("CARGO_BIN_EXE_tally"))
+        .arg("2")
+        .stdin(Stdio::piped())
+        .stdout(Stdio::null())
+        .stderr(Stdio::piped())
+        .spawn()
+        .unwrap();
+    let mut input = child.stdin.take().unwrap();
+    input.write_all(answers.as_bytes()).unwrap();
+    drop(input);
+    let output = child.wait_with_output().unwrap();
+    let message = String::from_utf8(output.stderr).unwrap();
+    (output.status.success(), message)
+}
+
+#[test]
+fn each_refusal_is_asked_for() {
+    let refusals = refusals();
+    let numbers = (1..=15).chain(20..=38);
+    for number in numbers.map(|number| format!("refused {number}")) {
+        let same = |kind: &&String| **kind == number || kind.starts_with(&format!("{number} "));
+        assert!(refusals.iter().any(|kind| same(&kind)), "{number}");
+    }
+    let all = refusals.join("\n") + "\n";
+    assert_eq!(tally(&(all.clone() + &all)), (true, String::new()));
+    for rare in &refusals {
+        let others: Vec<&str> = refusals
+            .iter()
+            .filter(|kind| *kind != rare)
+            .map(String::as_str)
+            .collect();
+        let (success, message) = tally(&(all.clone() + &others.join("\n")));
+        assert!(!success);
+        assert_eq!(message, format!("given under 2 times: {rare}\n"));
+    }
+}
