@@ -1,6 +1,6 @@
 //! The program that writes one domain's calls among the others': `interleave SEED DOMAIN COUNT OTHERS`.
 //!
-//! SEED, DOMAIN and COUNT decide the domain's own calls, OTHERS those of the other three domains; with 0 they make none.
+//! SEED, DOMAIN and COUNT decide the domain's own calls, OTHERS those of the other three; with 0 they make none.
 
 use std::env;
 use std::io::{self, BufWriter};

@@ -1,5 +1,5 @@
-//! The program that counts answers: `tally LEAST` reads answers, writes how often each kind was given, and fails where a
-//! refusal was given fewer times than that.
+//! The program that counts answers: `tally LEAST` reads answers, writes how often each kind was given, and fails where
+//! a refusal was given fewer times than that.
 
 use std::env;
 use std::io::{self, BufRead};

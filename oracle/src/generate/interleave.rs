@@ -18,7 +18,7 @@ struct Own {
     calls: Vec<Vec<u8>>,
 }
 
-/// Writes the domain's calls of the night `seed`, marked, among the others' of the night `others`; alone where that is 0.
+/// Writes the domain's calls of the night `seed`, marked, among the others' of the night `others`, which is empty where 0.
 pub fn write_script(
     seed: u64,
     domain: usize,
