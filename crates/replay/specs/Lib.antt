@@ -1,2 +1,1 @@
-pub mod Args
 pub mod Input

@@ -1,5 +1,4 @@
 // The commands whose words are all numbers, each one call of the device. v[1] is the first number.
-use super::args::Numbers;
 use super::report::closed;
 use super::report::counted;
 use super::report::outcome;
@@ -7,6 +6,7 @@ use super::report::taken_read;
 use super::state::Ran;
 use super::state::State;
 use super::state::bad_line;
+use command::args::Numbers;
 use rnic::RnicDone;
 ghost use Prim.Native.Nat.{_≤_};
 ghost use lib.ListN.{length};

@@ -1,17 +1,18 @@
 // One line of the script: which command it is, and what is answered.
-use super::answer::bad;
-use super::answer::print;
-use super::args::Words;
-use super::args::numbers_of;
-use super::args::split;
-use super::args::word;
 use super::calls;
-use super::frames;
+use super::output::print;
+use super::output::print_answer;
 use super::state::Ran;
 use super::state::State;
 use super::state::bad_line;
 use super::store;
 use super::streams;
+use command::answer::bad;
+use command::args::Words;
+use command::args::numbers_of;
+use command::args::split;
+use command::args::word;
+use command::frames;
 use wire::copy::same;
 ghost use mathlib.Core.Path.{_≡_};
 ghost use Prim.Native.Nat.{_≤_};
@@ -140,15 +141,6 @@ fn answer_line(
         return Ran { state, count: 0 };
     }
     store_line(state, line, words, bytes, frame, store, text)
-}
-
-// Writes an answer of n bytes as a line; an answer of none writes nothing.
-fn print_answer(text: &mut [u8], n: usize)
-    requires { ⌜ n ≤ length (now text) ⌝ }
-{
-    if n > 0 {
-        print(text, n);
-    }
 }
 
 // Runs a line of `count` bytes, which the buffer `line` starts with unless the line is too long.

@@ -1,8 +1,8 @@
 // The answers to the calls of the device.
-use super::answer::first;
-use super::answer::refused;
-use super::answer::then_number;
-use super::answer::wait;
+use command::answer::first;
+use command::answer::refused;
+use command::answer::then_number;
+use command::answer::wait;
 use ddp::part::Outcome;
 use ddp::refusal::Refusal;
 use domain::Answer;

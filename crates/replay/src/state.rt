@@ -1,5 +1,5 @@
 // What a script's run holds besides the store, and what a command leaves.
-use super::answer::bad;
+use command::answer::bad;
 use rnic::Rnic;
 ghost use Prim.Native.Nat.{_≤_};
 ghost use lib.ListN.{length};

@@ -1,11 +1,11 @@
 // The commands that show and set bytes of the store. Neither is a call of the device.
-use super::answer::bad;
-use super::answer::first;
-use super::answer::then_hex;
-use super::args::Numbers;
-use super::args::Words;
-use super::args::hex_into;
-use super::args::word;
+use command::answer::bad;
+use command::answer::first;
+use command::answer::then_hex;
+use command::args::Numbers;
+use command::args::Words;
+use command::args::hex_into;
+use command::args::word;
 use script::number::Number;
 use script::number::read_number;
 ghost use Prim.Native.Nat.{_≤_};

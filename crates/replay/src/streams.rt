@@ -1,15 +1,15 @@
 // The commands on a stream that are not numbers alone: opening one, and its peer's bytes.
-use super::args::Flag;
-use super::args::Words;
-use super::args::flag_of;
-use super::args::hex_into;
-use super::args::room;
-use super::args::word;
 use super::calls::ran;
 use super::report::received;
 use super::state::Ran;
 use super::state::State;
 use super::state::bad_line;
+use command::args::Flag;
+use command::args::Words;
+use command::args::flag_of;
+use command::args::hex_into;
+use command::args::room;
+use command::args::word;
 use script::number::Number;
 use script::number::read_number;
 ghost use mathlib.Core.Path.{_≡_};

@@ -1,6 +1,6 @@
 -- `then_code` meets its contract: the place after two puts lies within the text.
 use borrow.Author.Needs.{needs}
-use Rattle.replay.proofs.Within.{put-twice}
+use Rattle.command.proofs.Within.{put-twice}
 use Rattle.replay.proofs.report.then_code.Statement.{statement}
 use Rattle.replay.proofs.report.then_code.Tie as tie
 

@@ -1,6 +1,6 @@
 -- `then_word` meets its contract: the place after two puts lies within the text.
 use borrow.Author.Needs.{needs}
-use Rattle.replay.proofs.Within.{put-twice}
+use Rattle.command.proofs.Within.{put-twice}
 use Rattle.replay.proofs.report.then_word.Statement.{statement}
 use Rattle.replay.proofs.report.then_word.Tie as tie
 
