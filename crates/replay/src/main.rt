@@ -1,21 +1,14 @@
 // Runs a script of commands from standard input, and writes one line for each to standard output.
 //
-// `input` reads the script and parts it into lines, `line` runs one of them, `output` writes its
-// answer. The commands: `calls` and `streams` are calls of the device, whose answers `report` puts
-// together, `store` shows and sets the store's bytes; those on frames, and a line's words, are in the
-// crate `command`. Nothing grows with the script: the store and every buffer stand in `main` and are
-// lent from there.
+// `input` reads the script and parts it into lines, `run` runs one of them, `output` writes its answer.
+// What a line says and does is in the crate `player`. Nothing grows with the script: the store and
+// every buffer stand in `main` and are lent from there.
 ghost use mathlib.Core.Path.{_≡_};
 ghost use lib.ListN.{length};
 
-mod calls;
 mod input;
-mod line;
 mod output;
-mod report;
-mod state;
-mod store;
-mod streams;
+mod run;
 
 // The store, of zeros.
 fn new_store() -> [u8; 1048576]

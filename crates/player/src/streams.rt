@@ -1,9 +1,9 @@
 // The commands on a stream that are not numbers alone: opening one, and its peer's bytes.
-use super::calls::ran;
-use super::report::received;
-use super::state::Ran;
-use super::state::State;
-use super::state::bad_line;
+use crate::calls::ran;
+use crate::report::received;
+use crate::state::Ran;
+use crate::state::State;
+use crate::state::bad_line;
 use command::args::Flag;
 use command::args::Words;
 use command::args::flag_of;

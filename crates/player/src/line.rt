@@ -1,13 +1,10 @@
 // One line of the script: which command it is, and what is answered.
-use super::calls;
-use super::output::print;
-use super::output::print_answer;
-use super::state::Ran;
-use super::state::State;
-use super::state::bad_line;
-use super::store;
-use super::streams;
-use command::answer::bad;
+use crate::calls;
+use crate::state::Ran;
+use crate::state::State;
+use crate::state::bad_line;
+use crate::store;
+use crate::streams;
 use command::args::Words;
 use command::args::numbers_of;
 use command::args::split;
@@ -123,7 +120,7 @@ fn store_line(
 }
 
 // Runs the words of a line; a comment, and a line without words, write nothing.
-fn answer_line(
+pub fn answer_line(
     state: State,
     line: &[u8],
     bytes: &mut [u8],
@@ -141,24 +138,4 @@ fn answer_line(
         return Ran { state, count: 0 };
     }
     store_line(state, line, words, bytes, frame, store, text)
-}
-
-// Runs a line of `count` bytes, which the buffer `line` starts with unless the line is too long.
-pub fn run_line(
-    state: State,
-    line: &[u8],
-    count: usize,
-    bytes: &mut [u8],
-    frame: &mut [u8],
-    store: &mut [u8],
-    text: &mut [u8],
-) -> State {
-    if line.len() < count {
-        let n = bad(text);
-        print(text, n);
-        return state;
-    }
-    let ran = answer_line(state, &line[..count], bytes, frame, store, text);
-    print_answer(text, ran.count);
-    ran.state
 }

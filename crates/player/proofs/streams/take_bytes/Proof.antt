@@ -2,8 +2,8 @@
 use mathlib.Core.Path.{sym}
 use lib.Seq.{length-take-le}
 use borrow.Author.Needs.{needs}
-use Rattle.replay.proofs.streams.take_bytes.Statement.{statement}
-use Rattle.replay.proofs.streams.take_bytes.Tie as tie
+use Rattle.player.proofs.streams.take_bytes.Statement.{statement}
+use Rattle.player.proofs.streams.take_bytes.Tie as tie
 
 room-requires : tie.Need-room-requires
 room-requires c κs = search needs

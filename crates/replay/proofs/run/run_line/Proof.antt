@@ -2,8 +2,8 @@
 use mathlib.Core.Path.{sym}
 use lib.Seq.{length-take-le}
 use borrow.Author.Needs.{needs}
-use Rattle.replay.proofs.line.run_line.Statement.{statement}
-use Rattle.replay.proofs.line.run_line.Tie as tie
+use Rattle.replay.proofs.run.run_line.Statement.{statement}
+use Rattle.replay.proofs.run.run_line.Tie as tie
 
 bad-requires : tie.Need-bad-requires
 bad-requires c κs = search needs

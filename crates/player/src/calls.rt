@@ -1,11 +1,11 @@
 // The commands whose words are all numbers, each one call of the device. v[1] is the first number.
-use super::report::closed;
-use super::report::counted;
-use super::report::outcome;
-use super::report::taken_read;
-use super::state::Ran;
-use super::state::State;
-use super::state::bad_line;
+use crate::report::closed;
+use crate::report::counted;
+use crate::report::outcome;
+use crate::report::taken_read;
+use crate::state::Ran;
+use crate::state::State;
+use crate::state::bad_line;
 use command::args::Numbers;
 use rnic::RnicDone;
 ghost use Prim.Native.Nat.{_≤_};
