@@ -1,0 +1,8 @@
+// A DDP segment (RFC 5041, section 4) as a reader: the lent bytes of a ULPDU and a place in them. It
+// reads a header's fields in turn, says what is left, and hands the payload back.
+//
+// Read `reader::SegmentReader` first. Its functions are thin: each takes it apart and calls one of
+// `field` on the slice and the place. A caller that keeps no reader has `segment::read_by_fields` and
+// `segment::payload_of`, whose parameters are plain.
+pub mod field;
+pub mod reader;
