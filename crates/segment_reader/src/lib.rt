@@ -5,4 +5,5 @@
 // `field` on the slice and the place. A caller that keeps no reader has `segment::read_by_fields` and
 // `segment::payload_of`, whose parameters are plain.
 pub mod field;
+pub mod header;
 pub mod reader;
