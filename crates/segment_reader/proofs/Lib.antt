@@ -1,1 +1,7 @@
+pub mod Shape
+pub mod Ends
 pub mod Apart
+pub mod Turn
+pub mod Three
+pub mod Fields
+pub mod InTurn

@@ -7,3 +7,4 @@
 pub mod field;
 pub mod header;
 pub mod reader;
+pub mod segment;

@@ -10,7 +10,8 @@ use denote.Ref.{RefT, now}
 use denote.Signature.{plain}
 use denote.Slice.{shr-slice-lawful}
 use Rattle.segment_reader.specs.Field.{restFrom}
-use Rattle.segment_reader.proofs.Apart.{sliceTy, proved}
+use Rattle.segment_reader.proofs.Shape.{sliceTy}
+use Rattle.segment_reader.proofs.Apart.{proved}
 use Rattle.segment_reader.proofs.field.rest_at.Symbol as below
 use Rattle.segment_reader.proofs.field.rest_at.Met as below-thm
 use Rattle.segment_reader.proofs.reader.rest.Key.{name}

@@ -42,7 +42,7 @@ use denote.Exit.{yes}
 use denote.Triple.Clauses.{ensured, lasts}
 use Rattle.segment_reader.specs.Field.{placeAfter}
 use Rattle.segment_reader.specs.declared.reader.SegmentReader.{SegmentReader}
-use Rattle.segment_reader.proofs.Apart.{B}
+use Rattle.segment_reader.proofs.Shape.{B}
 use Rattle.segment_reader.proofs.reader.SegmentReader as T
 use Rattle.segment_reader.proofs.reader.SegmentReader.Laws as T′
 use Rattle.segment_reader.proofs.field.place_after as below
