@@ -40,7 +40,7 @@ use denote.Triple.Spec.{Meets, tripleOf}
 use denote.Triple.Table.{entered, cited}
 use denote.Triple.Clauses.{ensured, lasts, closing}
 use Rattle.segment_reader.specs.declared.reader.SegmentReader.{SegmentReader}
-use Rattle.segment_reader.proofs.Shape.{B, sliceTy, Typing, Says, over, under, over-clauses, under-clauses, Under, token, Own}
+use Rattle.segment_reader.proofs.Shape.{sliceTy, Typing, Says, over, under, over-clauses, under-clauses, Under, token, Own}
 use Rattle.segment_reader.proofs.Ends.{ReaderPost, reader-exits, reader-meets}
 use Rattle.segment_reader.proofs.reader.SegmentReader as T
 use Rattle.segment_reader.proofs.reader.SegmentReader.Laws as T′

@@ -5,3 +5,4 @@ pub mod Turn
 pub mod Three
 pub mod Fields
 pub mod InTurn
+pub mod Payload
