@@ -2,8 +2,8 @@
 // reads a header's fields in turn, says what is left, and hands the payload back.
 //
 // Read `reader::SegmentReader` first. Its functions are thin: each takes it apart and calls one of
-// `field` on the slice and the place. A caller that keeps no reader has `segment::read_by_fields` and
-// `segment::payload_of`, whose parameters are plain.
+// `field` or `header` on the slice and the place. A caller that keeps no reader has
+// `segment::read_by_fields` and `segment::payload_of`, whose parameters are plain.
 pub mod field;
 pub mod header;
 pub mod reader;
