@@ -1,0 +1,56 @@
+-- The words of an answer: word 0 says its kind, the next ones are its numbers, and those that are left are 0.
+use Prim.Native.Nat.{ℕ}
+use mathlib.Core.List.{List, [], _∷_}
+use Rattle.ddp.specs.declared.part.Outcome.{Outcome}
+use Rattle.ddp.specs.declared.part.Outcome.the-variants.{Done, Refused as NotDone}
+use Rattle.rdmap.specs.declared.stream.CloseAnswer.{CloseAnswer}
+use Rattle.rdmap.specs.declared.stream.CloseAnswer.the-variants.{Closed, Refused as NotClosed}
+use Rattle.rdmap.specs.declared.stream.TakeAnswer.{TakeAnswer}
+use Rattle.rdmap.specs.declared.stream.TakeAnswer.the-variants.{Read, Refused as NotTaken}
+use Rattle.domain.specs.declared.Event.{Event}
+use Rattle.domain.specs.declared.Event.the-variants.{NoEvent, Sent, SentInvalidating, Terminated}
+use Rattle.domain.specs.declared.Answer.{Answer}
+use Rattle.domain.specs.declared.Answer.the-variants.{Wait, Taken, Ended, Refused}
+use Rattle.rnic.specs.declared.Count.{Count}
+use Rattle.rnic.specs.declared.Count.the-variants.{Counted, Refused as NotCounted}
+
+abbrev pub words : ℕ → ℕ → ℕ → ℕ → ℕ → ℕ → List ℕ
+words kind a b c d e = kind ∷ a ∷ b ∷ c ∷ d ∷ e ∷ 0 ∷ 0 ∷ []
+
+-- 0: a local refusal, by its number
+abbrev pub refusedWords : ℕ → List ℕ
+refusedWords number = words 0 number 0 0 0 0
+
+-- 1: done
+abbrev pub outcomeWords : Outcome → List ℕ
+outcomeWords Done = words 1 0 0 0 0 0
+outcomeWords (NotDone number) = refusedWords number
+
+-- 2: closed, with the buffers that were not finished and the reads that were not taken
+abbrev pub closeWords : CloseAnswer → List ℕ
+closeWords (Closed buffers reads) = words 2 buffers reads 0 0 0
+closeWords (NotClosed number) = refusedWords number
+
+-- 3: a read
+abbrev pub takeWords : TakeAnswer → List ℕ
+takeWords (Read r) = words 3 (r .«sink_stag») (r .«sink_to») (r .size) (r .«source_stag») (r .«source_to»)
+takeWords (NotTaken number) = refusedWords number
+
+-- 4: a count
+abbrev pub countWords : Count → List ℕ
+countWords (Counted n) = words 4 n 0 0 0 0
+countWords (NotCounted number) = refusedWords number
+
+-- an FPDU is taken: 6 with no event, 7 a Send, 8 a Send that invalidated an STag, 9 a Terminate
+abbrev pub eventWords : ℕ → Event → List ℕ
+eventWords total NoEvent = words 6 total 0 0 0 0
+eventWords total (Sent start len opcode) = words 7 total start len opcode 0
+eventWords total (SentInvalidating start len opcode stag) = words 8 total start len opcode stag
+eventWords total (Terminated layer etype code) = words 9 total layer etype code 0
+
+-- 5: how many bytes to wait for; 10: a refusal of the peer's bytes
+abbrev pub answerWords : Answer → List ℕ
+answerWords (Wait n) = words 5 n 0 0 0 0
+answerWords (Taken total event) = eventWords total event
+answerWords (Ended r) = words 10 (r .number) (r .layer) (r .etype) (r .code) 0
+answerWords (Refused number) = refusedWords number
