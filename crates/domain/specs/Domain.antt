@@ -18,7 +18,7 @@ use Rattle.ddp.specs.declared.segment.SegmentRead.{SegmentRead}
 use Rattle.ddp.specs.declared.segment.SegmentRead.the-variants.{Wait as SegmentWait, Refused as SegmentRefused, Tagged as TaggedSegment, Untagged as UntaggedSegment}
 use Rattle.ddp.specs.declared.window.Window.{Window}
 use Rattle.rdmap.specs.Message.{writeVerdict, queuesOf, untaggedVerdict}
-use Rattle.rdmap.specs.Stream.{closedStream, readiness, opened, closed, postedOn, takenFrom, endedBy, terminatedBy, sendingOn, sentOn, queuedOn}
+use Rattle.rdmap.specs.Stream.{phaseOf, closedStream, readiness, opened, closed, postedOn, takenFrom, endedBy, terminatedBy, sendingOn, sentOn, queuedOn}
 use Rattle.domain.specs.declared.Domain.{Domain}
 use Rattle.domain.specs.declared.DomainDone.{DomainDone}
 use Rattle.domain.specs.declared.DomainClosed.{DomainClosed}
@@ -34,7 +34,6 @@ use Rattle.rdmap.specs.declared.message.Verdict.{Verdict}
 use Rattle.rdmap.specs.declared.message.Verdict.the-variants.{Refused as VerdictRefused, Nothing, Write, SendMore, SendLast, Read, Terminate}
 use Rattle.rdmap.specs.declared.stream.CloseAnswer.the-variants.{Refused as NotClosed}
 use Rattle.rdmap.specs.declared.stream.TakeAnswer.the-variants.{Refused as NotTaken}
-use Rattle.rdmap.specs.declared.stream.Phase.the-variants.{Closed}
 use Rattle.rdmap.specs.declared.stream.Readiness.{Readiness}
 use Rattle.rdmap.specs.declared.stream.Readiness.the-variants.{Ready, NotReady}
 use Rattle.rdmap.specs.declared.stream.Stream.{Stream}
@@ -42,7 +41,7 @@ use Rattle.rdmap.specs.declared.stream.Stream.{Stream}
 -- past the last stream, of which nothing is asked
 abbrev pub noStream : Stream
 noStream = record {
-  phase = Closed;
+  phase = phaseOf 0;
   crc = false;
   «send_msn» = 0;
   «read_msn» = 0;

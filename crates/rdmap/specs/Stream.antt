@@ -17,7 +17,6 @@ use Rattle.rdmap.specs.declared.read.ReadRequest.{ReadRequest}
 use Rattle.rdmap.specs.declared.read.Reads.{Reads}
 use Rattle.rdmap.specs.declared.stream.Stream.{Stream}
 use Rattle.rdmap.specs.declared.stream.Phase.{Phase}
-use Rattle.rdmap.specs.declared.stream.Phase.the-variants.{Closed, Open, Ended, Terminated}
 use Rattle.rdmap.specs.declared.stream.Readiness.{Readiness}
 use Rattle.rdmap.specs.declared.stream.Readiness.the-variants.{Ready, NotReady}
 use Rattle.rdmap.specs.declared.stream.StreamDone.{StreamDone}
@@ -34,10 +33,15 @@ noBuffers = record { count = 0; entries = replicate 8 noBuffer }
 abbrev pub noReads : Reads
 noReads = record { count = 0; entries = replicate 8 noRead }
 
+-- ---- where a stream stands: 0 closed, 1 open, 2 ended by a refusal, which it keeps, 3 ended by the peer's Terminate
+
+abbrev pub phaseOf : ℕ → Phase
+phaseOf state = record { state = state; refusal = record { number = 0; layer = 0; etype = 0; code = 0 } }
+
 -- a closed stream is all zeros
 abbrev pub closedStream : Stream
 closedStream = record {
-  phase = Closed;
+  phase = phaseOf 0;
   crc = false;
   «send_msn» = 0;
   «read_msn» = 0;
@@ -51,7 +55,7 @@ closedStream = record {
 -- "Each queue's MSN starts at 1"; "a stream opened again starts afresh"
 abbrev pub openedStream : Bool → Stream
 openedStream crc = record {
-  phase = Open;
+  phase = phaseOf 1;
   crc = crc;
   «send_msn» = 1;
   «read_msn» = 1;
@@ -64,10 +68,7 @@ openedStream crc = record {
 
 -- 3 stream not open; 5 stream ended, "which in 3 and 4 still counts as open"
 abbrev pub readiness : Phase → Readiness
-readiness Closed = NotReady 3
-readiness Open = Ready
-readiness (Ended r) = NotReady 5
-readiness Terminated = NotReady 5
+readiness p = pick (eqb (p .state) 0) (NotReady 3) (pick (eqb (p .state) 1) Ready (NotReady 5))
 
 abbrev pub inPhase : Stream → Phase → Stream
 inPhase s phase = record {
@@ -83,10 +84,7 @@ inPhase s phase = record {
 }
 
 abbrev pub isClosed : Phase → Bool
-isClosed Closed = true
-isClosed Open = false
-isClosed (Ended r) = false
-isClosed Terminated = false
+isClosed p = eqb (p .state) 0
 
 -- opening: 4 already open
 unfoldable pub opened : Stream → Bool → StreamDone
@@ -149,12 +147,12 @@ takenFrom s = takenWhen s (readiness (s .phase))
 
 -- "this stream ends and keeps the code"
 abbrev pub endedBy : Stream → Refusal → Stream
-endedBy s r = inPhase s (Ended r)
+endedBy s r = inPhase s (record { state = 2; refusal = r })
 
 -- "Terminate: the stream ends"
 abbrev pub terminatedBy : Stream → Stream
 terminatedBy s = record {
-  phase = Terminated;
+  phase = phaseOf 3;
   crc = s .crc;
   «send_msn» = s .«send_msn»;
   «read_msn» = s .«read_msn»;

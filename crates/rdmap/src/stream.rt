@@ -25,14 +25,35 @@ use ddp::part::Part;
 use ddp::refusal::Refusal;
 use ddp::untagged::next_msn;
 
-// Closed; open; or ended, by a refusal of the peer's bytes or by the peer's Terminate, and then
-// still open until it is closed.
-pub enum Phase {
-    Closed,
-    Open,
-    Ended(Refusal),
-    Terminated,
+// Where a stream stands: 0 closed; 1 open; 2 ended by a refusal of the peer's bytes, which stands
+// beside it; 3 ended by the peer's Terminate. One that is ended is still open until it is closed. The
+// refusal is zeros but in 2. Numbers and no enum, since a device that a C program holds may have none.
+pub struct Phase {
+    pub state: u8,
+    pub refusal: Refusal,
 }
+
+const NO_REFUSAL: Refusal = Refusal {
+    number: 0,
+    layer: 0,
+    etype: 0,
+    code: 0,
+};
+
+const CLOSED: Phase = Phase {
+    state: 0,
+    refusal: NO_REFUSAL,
+};
+
+const OPEN: Phase = Phase {
+    state: 1,
+    refusal: NO_REFUSAL,
+};
+
+const TERMINATED: Phase = Phase {
+    state: 3,
+    refusal: NO_REFUSAL,
+};
 
 // The next MSN of each queue, the opcode of a Send under way (0: none) and how many of its bytes
 // are taken, the buffers that wait and the peer's reads that wait.
@@ -86,12 +107,7 @@ pub struct StreamTaken {
 fn is_closed(phase: Phase) -> bool
     ensures { λ r. ⌜ r ≡ isClosed phase ⌝ }
 {
-    match phase {
-        Phase::Closed => true,
-        Phase::Open => false,
-        Phase::Ended(_) => false,
-        Phase::Terminated => false,
-    }
+    phase.state == 0
 }
 
 // A closed stream.
@@ -107,7 +123,7 @@ pub fn closed_stream() -> Stream
         source_to: 0,
     };
     Stream {
-        phase: Phase::Closed,
+        phase: CLOSED,
         crc: false,
         send_msn: 0,
         read_msn: 0,
@@ -131,11 +147,11 @@ impl Stream {
         ensures { λ r. ⌜ r ≡ readiness (self .phase) ⌝ }
     {
         let phase = self.phase;
-        match phase {
-            Phase::Closed => Readiness::NotReady(3),
-            Phase::Open => Readiness::Ready,
-            Phase::Ended(_) => Readiness::NotReady(5),
-            Phase::Terminated => Readiness::NotReady(5),
+        let state = phase.state;
+        match state {
+            0 => Readiness::NotReady(3),
+            1 => Readiness::Ready,
+            _ => Readiness::NotReady(5),
         }
     }
 
@@ -164,7 +180,7 @@ impl Stream {
     {
         let phase = self.phase;
         if is_closed(phase) {
-            let mut stream = closed_stream().in_phase(Phase::Open);
+            let mut stream = closed_stream().in_phase(OPEN);
             stream.crc = crc;
             stream.send_msn = 1;
             stream.read_msn = 1;
@@ -258,14 +274,14 @@ impl Stream {
     pub fn end(self, refusal: Refusal) -> Stream
         ensures { λ r. ⌜ r ≡ endedBy self refusal ⌝ }
     {
-        self.in_phase(Phase::Ended(refusal))
+        self.in_phase(Phase { state: 2, refusal })
     }
 
     // Ends the stream by the peer's Terminate.
     pub fn terminated(self) -> Stream
         ensures { λ r. ⌜ r ≡ terminatedBy self ⌝ }
     {
-        let mut stream = self.in_phase(Phase::Terminated);
+        let mut stream = self.in_phase(TERMINATED);
         stream.terminate_msn = next_msn(self.terminate_msn);
         stream
     }
