@@ -7,12 +7,14 @@ use crate::refusal::BAD_PLACE;
 use crate::refusal::BUFFERS_FULL;
 
 // One buffer: where it starts in the store, and how many bytes it holds.
+#[repr(C)]
 pub struct Buffer {
     pub start: u32,
     pub len: u32,
 }
 
 // The buffers that wait, the oldest first; zeros past the count.
+#[repr(C)]
 pub struct Buffers {
     pub count: u32,
     pub entries: [Buffer; 8],

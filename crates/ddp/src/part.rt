@@ -3,6 +3,7 @@ ghost use mathlib.Core.Path.{_≡_};
 ghost use Rattle.ddp.specs.Part.{inPart};
 
 // The bytes from start up to end are the domain's.
+#[repr(C)]
 pub struct Part {
     pub start: u32,
     pub end: u32,

@@ -12,6 +12,7 @@ use crate::refusal::WINDOW_LIVE;
 use crate::refusal::WINDOW_NOT_LIVE;
 
 // One window. A dead one keeps its last key (0: it never had one), and zeros beside.
+#[repr(C)]
 pub struct Window {
     pub live: bool,
     pub key: u8,

@@ -45,6 +45,7 @@ use rdmap::stream::TakeAnswer;
 use rdmap::stream::closed_stream;
 
 // What a domain holds.
+#[repr(C)]
 pub struct Domain {
     pub part: Part,
     pub windows: [Window; 16],

@@ -7,6 +7,7 @@ use wire::number::get_be32;
 use wire::number::get_be64;
 
 // One Read Request (RFC 5040, section 4.4): where the peer wants the bytes, how many, and from where.
+#[repr(C)]
 pub struct ReadRequest {
     pub sink_stag: u32,
     pub sink_to: u64,
@@ -16,6 +17,7 @@ pub struct ReadRequest {
 }
 
 // The requests that wait, the oldest first; zeros past the count.
+#[repr(C)]
 pub struct Reads {
     pub count: u32,
     pub entries: [ReadRequest; 8],

@@ -28,6 +28,7 @@ use ddp::untagged::next_msn;
 // Where a stream stands: 0 closed; 1 open; 2 ended by a refusal of the peer's bytes, which stands
 // beside it; 3 ended by the peer's Terminate. One that is ended is still open until it is closed. The
 // refusal is zeros but in 2. Numbers and no enum, since a device that a C program holds may have none.
+#[repr(C)]
 pub struct Phase {
     pub state: u8,
     pub refusal: Refusal,
@@ -57,6 +58,7 @@ const TERMINATED: Phase = Phase {
 
 // The next MSN of each queue, the opcode of a Send under way (0: none) and how many of its bytes
 // are taken, the buffers that wait and the peer's reads that wait.
+#[repr(C)]
 pub struct Stream {
     pub phase: Phase,
     pub crc: bool,

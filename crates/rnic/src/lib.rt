@@ -36,6 +36,7 @@ use rdmap::stream::CloseAnswer;
 use rdmap::stream::TakeAnswer;
 
 // The length of the store, and the four domains.
+#[repr(C)]
 pub struct Rnic {
     pub len: u32,
     pub domains: [Domain; 4],
