@@ -56,3 +56,19 @@ pub fn call(
         }
     }
 }
+
+// A call by its number on a device that the caller holds: `call` of it, put back in its place.
+#[no_mangle]
+pub extern "C" fn rnic_c_call(
+    device: &mut Rnic,
+    store: &mut [u8],
+    number: u64,
+    a: &[u64; 9],
+    bytes: &[u8],
+    answer: &mut [u64; 8],
+)
+    ensures { λ _. ⌜ (now (device .exit) ≡ called (now (device .entry)) (length (now (store .entry))) number (now (a .entry)) (now (bytes .entry)) .rnic) × (now (answer .exit) ≡ called (now (device .entry)) (length (now (store .entry))) number (now (a .entry)) (now (bytes .entry)) .words) × (now (store .exit) ≡ calledStore (now (device .entry)) number (now (a .entry)) (now (bytes .entry)) (now (store .entry))) ⌝ }
+{
+    let next = call(*device, store, number, a, bytes, answer);
+    *device = next;
+}
