@@ -5,7 +5,8 @@
 // in specs/Call.antt and the words of the answers in specs/Words.antt; include/rnic.h has both for C.
 ghost use mathlib.Core.Path.{_≡_};
 ghost use lib.ListN.{length};
-ghost use Rattle.rnic_c.specs.Call.{called, calledStore};
+ghost use Rattle.rnic_c.specs.Call.{called, calledStore, calledReceive};
+ghost use Rattle.rnic.specs.Rnic.{rnicReceivedStore};
 use crate::calls::call_close_stream;
 use crate::calls::call_drop_window;
 use crate::calls::call_live_count;
@@ -70,5 +71,20 @@ pub extern "C" fn rnic_c_call(
     ensures { λ _. ⌜ (now (device .exit) ≡ called (now (device .entry)) (length (now (store .entry))) number (now (a .entry)) (now (bytes .entry)) .rnic) × (now (answer .exit) ≡ called (now (device .entry)) (length (now (store .entry))) number (now (a .entry)) (now (bytes .entry)) .words) × (now (store .exit) ≡ calledStore (now (device .entry)) number (now (a .entry)) (now (bytes .entry)) (now (store .entry))) ⌝ }
 {
     let next = call(*device, store, number, a, bytes, answer);
+    *device = next;
+}
+
+// The device's receive by itself: what `rnic_c_call` does with the number 9, with one dispatch less.
+#[no_mangle]
+pub extern "C" fn rnic_c_receive(
+    device: &mut Rnic,
+    store: &mut [u8],
+    stream: u64,
+    bytes: &[u8],
+    answer: &mut [u64; 8],
+)
+    ensures { λ _. ⌜ (now (device .exit) ≡ calledReceive (now (device .entry)) (length (now (store .entry))) stream (now (bytes .entry)) .rnic) × (now (answer .exit) ≡ calledReceive (now (device .entry)) (length (now (store .entry))) stream (now (bytes .entry)) .words) × (now (store .exit) ≡ rnicReceivedStore (now (device .entry)) stream (now (bytes .entry)) (now (store .entry))) ⌝ }
+{
+    let next = call_receive(*device, store, stream, bytes, answer);
     *device = next;
 }

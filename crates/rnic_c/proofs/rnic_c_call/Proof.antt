@@ -30,7 +30,7 @@ use denote.Plain.{uint-vals, uint-tells}
 use denote.Builtin.{u8, u64, Array}
 use denote.Ref.{RefT, MutRef, ShrRef, ptr-vals, mut-tells, shr-tells}
 use denote.Slice.{sliceVal, slice-vals, MutSlice, ShrSlice, mut-slice-tells, shr-slice-tells, finally, Room}
-use denote.Signature.{plain, mutRefTo, shrRefTo, shrSliceOf}
+use denote.Signature.{plain, shrRefTo, shrSliceOf}
 use denote.Steps.{opens, closes, peeks, heard}
 use denote.Struct.Steps.{spelt}
 use denote.Struct.Laws as LL
