@@ -1,0 +1,79 @@
+/* The receiver for a C program: a device that the caller holds, over a store that the caller lends at each call.
+ *
+ * Link with librnic_c.a, which `rt staticlib rnic_c` writes. Each function is proved to do what the device's call does by
+ * value (crates/rnic_c): the device, the answer's eight words and the whole store after it. There is no state besides
+ * `struct rnic`, no allocation and no I/O; a device may be copied, and moved to another place, as plain bytes.
+ *
+ * The caller owes what a Rust reference means: the device, the store, the bytes and the answer do not overlap (the
+ * arguments and the bytes may), each pointer is good for its length, none is null, and the device was opened. A slice of no
+ * bytes takes any pointer but null. */
+#ifndef RNIC_H
+#define RNIC_H
+
+#include <stddef.h>
+#include <stdint.h>
+
+#ifdef __cplusplus
+extern "C" {
+#define RNIC_ALIGNAS alignas
+#else
+#define RNIC_ALIGNAS _Alignas
+#endif
+
+/* The size and the alignment of a device; include/rnic_check.c checks both against the library. */
+#define RNIC_C_SIZE 7336
+#define RNIC_C_ALIGN 8
+
+/* A device: the length of its store and four domains, laid out as C does. Its fields are nobody's business. */
+struct rnic {
+    RNIC_ALIGNAS(RNIC_C_ALIGN) unsigned char opaque[RNIC_C_SIZE];
+};
+
+/* How many numbers a call takes, and how many words its answer has. */
+#define RNIC_C_ARGUMENTS 9
+#define RNIC_C_WORDS 8
+
+/* The calls, with the numbers that each takes of a[0] to a[8]; it looks at no other. */
+enum rnic_call {
+    RNIC_OPEN = 0,         /* store length, then start and end of each domain's part: s0 e0 s1 e1 s2 e2 s3 e3 */
+    RNIC_OPEN_STREAM = 1,  /* stream, CRC: 0 off, anything else on */
+    RNIC_CLOSE_STREAM = 2, /* stream */
+    RNIC_REGISTER = 3,     /* window, key, base, length, place, rights */
+    RNIC_DROP_WINDOW = 4,  /* window */
+    RNIC_POST = 5,         /* stream, start, length */
+    RNIC_TAKE = 6,         /* stream */
+    RNIC_LIVE_COUNT = 7,   /* domain */
+    RNIC_LOWEST_FREE = 8,  /* domain */
+    RNIC_RECEIVE = 9       /* stream; it alone looks at the bytes and the store */
+    /* any other number answers RNIC_REFUSED 1 and changes nothing */
+};
+
+/* Word 0 of an answer, and the words after it; those that are left are 0. */
+enum rnic_answer {
+    RNIC_REFUSED = 0,           /* a local refusal's number; nothing changed */
+    RNIC_DONE = 1,              /* nothing more */
+    RNIC_CLOSED = 2,            /* buffers not finished, reads not taken */
+    RNIC_READ = 3,              /* sink STag, sink TO, size, source STag, source TO */
+    RNIC_COUNTED = 4,           /* the count */
+    RNIC_WAIT = 5,              /* how many bytes are needed */
+    RNIC_TAKEN = 6,             /* the FPDU's total */
+    RNIC_SENT = 7,              /* the FPDU's total, the buffer's start, the message's length, the opcode */
+    RNIC_SENT_INVALIDATING = 8, /* the same, and the STag that it invalidated */
+    RNIC_TERMINATED = 9,        /* the FPDU's total, layer, error type, error code */
+    RNIC_ENDED = 10             /* a refusal of the peer's bytes, which ended the stream: number, layer, type, code */
+};
+
+/* The call of a number. RNIC_OPEN makes *device anew, whatever bytes it held. */
+void rnic_c_call(struct rnic *device, uint8_t *store, size_t store_length, uint64_t number,
+                 const uint64_t a[RNIC_C_ARGUMENTS], const uint8_t *bytes, size_t bytes_length,
+                 uint64_t answer[RNIC_C_WORDS]);
+
+/* RNIC_RECEIVE by itself, for the path that has to be quick: the first FPDU of bytes for a stream. */
+void rnic_c_receive(struct rnic *device, uint8_t *store, size_t store_length, uint64_t stream, const uint8_t *bytes,
+                    size_t bytes_length, uint64_t answer[RNIC_C_WORDS]);
+
+#ifdef __cplusplus
+}
+#endif
+
+#endif

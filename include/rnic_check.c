@@ -1,0 +1,111 @@
+/* Checks rnic.h against the library: the size and the alignment of a device, and an answer of each call.
+ * It writes `ok` and ends with 0, or says what differs and ends with 1. */
+#include "rnic.h"
+
+#include <stdio.h>
+#include <string.h>
+
+#define STORE 4096
+
+static uint8_t store[STORE];
+static int wrong;
+
+static void expect(const char *what, const uint64_t *got, uint64_t kind, uint64_t first, uint64_t second) {
+    if (got[0] != kind || got[1] != first || got[2] != second) {
+        printf("%s: %llu %llu %llu\n", what, (unsigned long long)got[0], (unsigned long long)got[1],
+               (unsigned long long)got[2]);
+        wrong = 1;
+    }
+}
+
+/* The first byte and one past the last byte that opening writes, of a buffer filled with a pattern. */
+static void written(unsigned char *room, size_t size, unsigned char *at, unsigned char pattern, size_t *first, size_t *last) {
+    uint64_t a[RNIC_C_ARGUMENTS] = {STORE, 0, 1024, 1024, 2048, 2048, 3072, 3072, STORE};
+    uint64_t answer[RNIC_C_WORDS];
+    memset(room, pattern, size);
+    rnic_c_call((struct rnic *)at, store, STORE, RNIC_OPEN, a, store, 0, answer);
+    expect("open", answer, RNIC_DONE, 0, 0);
+    for (*first = 0; *first < size && room[*first] == pattern; ++*first) {
+    }
+    for (*last = size; *last > *first && room[*last - 1] == pattern; --*last) {
+    }
+}
+
+/* A device that lies at an address that is no multiple of 16 is written from its first byte to its last, and nothing else. */
+static void check_size(void) {
+    static _Alignas(16) unsigned char room[3 * RNIC_C_SIZE];
+    size_t before = (RNIC_C_SIZE / 16) * 16 + RNIC_C_ALIGN, first, last;
+    unsigned char patterns[] = {0xA5, 0x5A};
+    for (int i = 0; i < 2; ++i) {
+        written(room, sizeof room, room + before, patterns[i], &first, &last);
+        if (first != before || last != before + RNIC_C_SIZE) {
+            printf("a device of %d bytes at %zu was written from %zu up to %zu\n", RNIC_C_SIZE, before, first, last);
+            wrong = 1;
+        }
+    }
+    if (sizeof(struct rnic) != RNIC_C_SIZE || _Alignof(struct rnic) != RNIC_C_ALIGN) {
+        printf("struct rnic: %zu bytes, aligned to %zu\n", sizeof(struct rnic), _Alignof(struct rnic));
+        wrong = 1;
+    }
+}
+
+static struct rnic device;
+
+static void call(const char *what, uint64_t number, uint64_t a0, uint64_t a1, uint64_t a2, uint64_t a3, uint64_t a4,
+                 uint64_t a5, uint64_t kind, uint64_t first, uint64_t second) {
+    uint64_t a[RNIC_C_ARGUMENTS] = {a0, a1, a2, a3, a4, a5, 0, 0, 0};
+    uint64_t answer[RNIC_C_WORDS];
+    rnic_c_call(&device, store, STORE, number, a, store, 0, answer);
+    expect(what, answer, kind, first, second);
+}
+
+/* A Write of four bytes to TO 8 of the window with STag 7, the CRC off: to stream 0 by each of the two entries. */
+static void check_write(void) {
+    uint8_t f[] = {0, 18, 0xC1, 0x40, 0, 0, 0, 7, 0, 0, 0, 0, 0, 0, 0, 8, 'a', 'b', 'c', 'd', 0, 0, 0, 0};
+    uint64_t a[RNIC_C_ARGUMENTS] = {0}, answer[RNIC_C_WORDS];
+    rnic_c_receive(&device, store, STORE, 0, f, sizeof f, answer);
+    expect("receive", answer, RNIC_TAKEN, sizeof f, 0);
+    if (memcmp(store + 108, "abcd", 4) != 0) {
+        puts("receive: the payload is not in its place");
+        wrong = 1;
+    }
+    f[16] = 'x';
+    rnic_c_call(&device, store, STORE, RNIC_RECEIVE, a, f, sizeof f, answer);
+    expect("receive by its number", answer, RNIC_TAKEN, sizeof f, 0);
+    if (memcmp(store + 108, "xbcd", 4) != 0) {
+        puts("receive by its number: the payload is not in its place");
+        wrong = 1;
+    }
+    rnic_c_receive(&device, store, STORE, 0, f, 5, answer);
+    expect("receive of a part", answer, RNIC_WAIT, 24, 0);
+    rnic_c_receive(&device, store, STORE - 1, 0, f, sizeof f, answer);
+    expect("receive with another store", answer, RNIC_REFUSED, 2, 0);
+    f[2] = 0xC0;
+    rnic_c_receive(&device, store, STORE, 0, f, sizeof f, answer);
+    expect("receive of a bad version", answer, RNIC_ENDED, 23, 1);
+}
+
+int main(void) {
+    uint64_t a[RNIC_C_ARGUMENTS] = {STORE, 0, 1024, 1024, 2048, 2048, 3072, 3072, STORE}, answer[RNIC_C_WORDS];
+    check_size();
+    if (wrong) {
+        return 1; /* what follows would write past a device that is too small */
+    }
+    rnic_c_call(&device, store, STORE, RNIC_OPEN, a, store, 0, answer);
+    expect("open", answer, RNIC_DONE, 0, 0);
+    call("open_stream", RNIC_OPEN_STREAM, 0, 0, 0, 0, 0, 0, RNIC_DONE, 0, 0);
+    call("open_stream again", RNIC_OPEN_STREAM, 0, 0, 0, 0, 0, 0, RNIC_REFUSED, 4, 0);
+    call("register", RNIC_REGISTER, 0, 7, 0, 256, 100, 3, RNIC_DONE, 0, 0);
+    call("live_count", RNIC_LIVE_COUNT, 0, 0, 0, 0, 0, 0, RNIC_COUNTED, 1, 0);
+    call("lowest_free", RNIC_LOWEST_FREE, 0, 0, 0, 0, 0, 0, RNIC_COUNTED, 1, 0);
+    call("post", RNIC_POST, 0, 512, 64, 0, 0, 0, RNIC_DONE, 0, 0);
+    call("take", RNIC_TAKE, 0, 0, 0, 0, 0, 0, RNIC_REFUSED, 11, 0);
+    check_write();
+    call("drop_window", RNIC_DROP_WINDOW, 0, 0, 0, 0, 0, 0, RNIC_DONE, 0, 0);
+    call("close_stream", RNIC_CLOSE_STREAM, 0, 0, 0, 0, 0, 0, RNIC_CLOSED, 1, 0);
+    call("no call", 10, 0, 0, 0, 0, 0, 0, RNIC_REFUSED, 1, 0);
+    if (!wrong) {
+        puts("ok");
+    }
+    return wrong;
+}
