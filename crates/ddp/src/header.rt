@@ -48,7 +48,7 @@ pub enum HeaderRead {
 }
 
 // Whether L is set in the first byte.
-fn is_last(b: u8) -> bool
+pub fn is_last(b: u8) -> bool
     ensures { λ r. ⌜ r ≡ lastBit b ⌝ }
 {
     b / 64 % 2 == 1

@@ -1,7 +1,7 @@
 // Headers: read whole at a place of a slice, with the payload after it, and put together from fields
 // that were read one by one.
 ghost use mathlib.Core.Path.{_≡_};
-ghost use Rattle.ddp.specs.Header.{headerRead, lastBit};
+ghost use Rattle.ddp.specs.Header.{headerRead};
 ghost use Rattle.segment_reader.specs.Field.{restFrom};
 ghost use Rattle.segment_reader.specs.Header.{
   payloadOf,
@@ -18,6 +18,7 @@ use crate::field::rest_at;
 use ddp::header::HeaderRead;
 use ddp::header::TaggedHeader;
 use ddp::header::UntaggedHeader;
+use ddp::header::is_last;
 use ddp::refusal::SEGMENT_TOO_SHORT;
 use ddp::refusal::TAGGED_VERSION;
 use ddp::refusal::UNTAGGED_VERSION;
@@ -87,13 +88,6 @@ pub fn queue_of(qn: Be32Field, msn: Be32Field, mo: Be32Field) -> Queue
         return Queue::End;
     };
     Queue::Fields { qn, msn, mo }
-}
-
-// Whether L is set in the first byte.
-fn is_last(first: u8) -> bool
-    ensures { λ r. ⌜ r ≡ lastBit first ⌝ }
-{
-    first / 64 % 2 == 1
 }
 
 // The tagged header of its fields.
