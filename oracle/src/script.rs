@@ -24,17 +24,22 @@ pub struct Interpreter {
 }
 
 impl Default for Interpreter {
-    /// Starts with a zero store and the box that a refused opening leaves.
+    /// Starts with a store of the program's size.
     fn default() -> Self {
-        Interpreter {
-            device: Device::default(),
-            store: vec![0; STORE],
-            lent: 0,
-        }
+        Interpreter::with_store(STORE)
     }
 }
 
 impl Interpreter {
+    /// Starts with a zero store of this size and the box that a refused opening leaves.
+    pub fn with_store(size: usize) -> Self {
+        Interpreter {
+            device: Device::default(),
+            store: vec![0; size],
+            lent: 0,
+        }
+    }
+
     /// Runs one line without its newline; a comment or an empty line has no answer.
     pub fn run_line(&mut self, line: &[u8]) -> Option<String> {
         match parse(line) {
@@ -52,7 +57,7 @@ impl Interpreter {
         let device = &mut self.device;
         Ok(match command {
             Command::Open { length, parts } => {
-                self.lent = length.min(STORE as u64) as usize;
+                self.lent = length.min(self.store.len() as u64) as usize;
                 device.open(length, parts)?;
                 String::from("opened")
             }
@@ -92,7 +97,7 @@ impl Interpreter {
     /// Receives with the store's front lent.
     fn receive(&mut self, stream: u64, bytes: &[u8], lent: Option<u64>) -> String {
         let lent = lent.unwrap_or(self.lent as u64);
-        if lent > STORE as u64 {
+        if lent > self.store.len() as u64 {
             return bad();
         }
         let store = &mut self.store[..lent as usize];
@@ -101,7 +106,7 @@ impl Interpreter {
 
     /// Shows bytes of the store.
     fn show(&self, start: u64, length: u64) -> String {
-        match store_range(start, length) {
+        match store_range(&self.store, start, length) {
             Some(range) => format!("bytes {}", hex::encode(&self.store[range])),
             None => bad(),
         }
@@ -109,7 +114,7 @@ impl Interpreter {
 
     /// Puts bytes into the store.
     fn fill(&mut self, start: u64, bytes: &[u8]) -> String {
-        match store_range(start, bytes.len() as u64) {
+        match store_range(&self.store, start, bytes.len() as u64) {
             Some(range) => {
                 self.store[range].copy_from_slice(bytes);
                 String::from("done")
@@ -167,9 +172,9 @@ fn wrote(
 }
 
 /// Gives a range of the store, or nothing where it goes past the store's size.
-fn store_range(start: u64, length: u64) -> Option<std::ops::Range<usize>> {
+fn store_range(store: &[u8], start: u64, length: u64) -> Option<std::ops::Range<usize>> {
     let end = start.checked_add(length)?;
-    (end <= STORE as u64).then_some(start as usize..end as usize)
+    (end <= store.len() as u64).then_some(start as usize..end as usize)
 }
 
 /// Runs a whole script; `watch` is shown each line with its answer.

@@ -3,7 +3,6 @@
 use super::malformed::malform;
 use super::nights::Night;
 use crate::hex;
-use crate::script::STORE;
 use crate::state::{stream_domain, Part, STREAMS, WINDOWS, WINDOWS_PER_DOMAIN};
 
 impl Night {
@@ -124,11 +123,11 @@ impl Night {
 
     /// Shows some bytes of the store; where it plays every domain, also past a part or the store.
     pub(super) fn show(&mut self) {
-        let inside = self.range(200);
+        let (inside, store) = (self.range(200), self.store());
         let prng = &mut self.prng;
         let (start, length) = match prng.below(10) {
             0 => (0, 5000),
-            1 => (STORE as u64 - prng.below(20), prng.below(20)),
+            1 => (store.saturating_sub(prng.below(20)), prng.below(20)),
             2 => (prng.draw(), prng.below(10)),
             _ => inside,
         };
@@ -145,7 +144,7 @@ impl Night {
         let (start, length) = self.range(40);
         let bytes = self.prng.bytes(length as usize);
         let start = match self.prng.below(8) {
-            0 if self.is_whole() => STORE as u64 - self.prng.below(40),
+            0 if self.is_whole() => self.store().saturating_sub(self.prng.below(40)),
             1 if self.is_whole() => self.prng.below(self.interpreter.device.length.max(100)),
             _ => start,
         };

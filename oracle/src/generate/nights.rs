@@ -5,7 +5,7 @@ use std::io::{self, Write};
 use super::openings::opening;
 use super::prng::Prng;
 use super::segments::Kind;
-use crate::script::{Interpreter, STORE};
+use crate::script::Interpreter;
 use crate::state::{stream_domain, Condition};
 use crate::state::{DOMAINS, STREAMS, STREAMS_PER_DOMAIN};
 
@@ -13,8 +13,22 @@ use crate::state::{DOMAINS, STREAMS, STREAMS_PER_DOMAIN};
 const EVERY: [usize; DOMAINS] = [0, 1, 2, 3];
 
 /// Writes a script of `count` lines, the last of which shows the whole store.
-pub fn write_script(seed: u64, count: u64, mut out: impl Write) -> io::Result<()> {
-    let mut night = Night::new(seed, EVERY.to_vec(), count.saturating_sub(1));
+pub fn write_script(seed: u64, count: u64, out: impl Write) -> io::Result<()> {
+    write_night(Night::new(seed, EVERY.to_vec(), count), out)
+}
+
+/// Writes a script for a store of another size, most of whose openings are over all of it.
+pub fn write_script_over(store: usize, seed: u64, count: u64, out: impl Write) -> io::Result<()> {
+    let mut night = Night::new(seed, EVERY.to_vec(), count);
+    night.interpreter = Interpreter::with_store(store);
+    night.usual = Some(store as u64);
+    write_night(night, out)
+}
+
+/// Writes the lines of a night, the last of which shows the whole store.
+fn write_night(mut night: Night, mut out: impl Write) -> io::Result<()> {
+    let shown = night.left > 0;
+    night.left -= u64::from(shown);
     while night.left > 0 {
         night.step();
         for line in night.lines.drain(..) {
@@ -22,17 +36,19 @@ pub fn write_script(seed: u64, count: u64, mut out: impl Write) -> io::Result<()
             out.write_all(b"\n")?;
         }
     }
-    if count > 0 {
-        writeln!(out, "bytes 0 {STORE}")?;
+    if shown {
+        writeln!(out, "bytes 0 {}", night.store())?;
     }
     out.flush()
 }
 
-/// A night under way: the domains whose calls it makes, its lines so far and the number still to come.
+/// A night under way: the domains whose calls it makes, the length that most openings have where there is one, its lines
+/// so far and the number still to come.
 pub(super) struct Night {
     pub(super) prng: Prng,
     pub(super) interpreter: Interpreter,
     pub(super) domains: Vec<usize>,
+    usual: Option<u64>,
     pub(super) lines: Vec<Vec<u8>>,
     pub(super) left: u64,
 }
@@ -44,9 +60,15 @@ impl Night {
             prng: Prng::new(seed),
             interpreter: Interpreter::default(),
             domains,
+            usual: None,
             lines: Vec::new(),
             left,
         }
+    }
+
+    /// Gives the size of the program's store.
+    pub(super) fn store(&self) -> u64 {
+        self.interpreter.store.len() as u64
     }
 
     /// Says whether it makes the calls of every domain.
@@ -68,9 +90,9 @@ impl Night {
     /// Goes one step on: an opening, soon where the store cannot be lent, or a call.
     fn step(&mut self) {
         let length = self.interpreter.device.length;
-        let usable = (1..=STORE as u64).contains(&length);
+        let usable = (1..=self.store()).contains(&length);
         if self.prng.below(1000) < if usable { 2 } else { 300 } {
-            let line = opening(&mut self.prng);
+            let line = opening(&mut self.prng, self.usual);
             self.say(line);
         } else {
             self.call();

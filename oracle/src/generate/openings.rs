@@ -3,17 +3,11 @@
 use super::prng::Prng;
 use crate::state::{DOMAINS, MAX_STORE};
 
-/// Gives a line that opens the box.
-pub fn opening(prng: &mut Prng) -> String {
-    let any = prng.between(64, 20_000);
-    let length = match prng.below(16) {
-        0 | 1 => prng.pick(&[0, MAX_STORE + 1, u64::MAX]),
-        2 => prng.pick(&[1, 1_048_577, MAX_STORE]),
-        3 => 1_048_576,
-        4..=7 => 4096,
-        8..=11 => 16_384,
-        12..=13 => 65_536,
-        _ => any,
+/// Gives a line that opens the box, three times in four with the usual length where there is one.
+pub fn opening(prng: &mut Prng, usual: Option<u64>) -> String {
+    let length = match usual {
+        Some(length) if prng.percent(75) => length,
+        _ => any_length(prng),
     };
     let mut ends = if prng.percent(50) {
         quarters(length)
@@ -44,6 +38,20 @@ pub fn roomy_opening(prng: &mut Prng, domain: usize) -> String {
 fn line(length: u64, ends: &[u64]) -> String {
     let words: Vec<String> = ends.iter().map(u64::to_string).collect();
     format!("open {length} {}", words.join(" "))
+}
+
+/// Gives a length, now and then one that is refused.
+fn any_length(prng: &mut Prng) -> u64 {
+    let any = prng.between(64, 20_000);
+    match prng.below(16) {
+        0 | 1 => prng.pick(&[0, MAX_STORE + 1, u64::MAX]),
+        2 => prng.pick(&[1, 1_048_577, MAX_STORE]),
+        3 => 1_048_576,
+        4..=7 => 4096,
+        8..=11 => 16_384,
+        12..=13 => 65_536,
+        _ => any,
+    }
 }
 
 /// Gives four parts of a quarter each.

@@ -6,7 +6,6 @@ use super::nights::Night;
 use super::segments::{fpdu, kind, live_window, Kind};
 use crate::hex;
 use crate::rdmap;
-use crate::script::STORE;
 use crate::state::{stream_domain, RIGHT_READ, RIGHT_WRITE, STREAMS};
 
 impl Night {
@@ -46,7 +45,7 @@ impl Night {
     /// Gives the word of another lent length, or nothing.
     fn lent(&mut self) -> String {
         let length = self.interpreter.device.length;
-        let store = STORE as u64;
+        let store = self.store();
         if length == 0 && self.prng.percent(70) {
             return String::from(" 0");
         }
