@@ -1,0 +1,167 @@
+//! The device: each call of the C interface as a safe function.
+
+use std::fmt;
+use std::ops::Range;
+
+use crate::answer::{Closed, Error, ReadRequest, Received};
+use crate::raw::{self, call, Arguments, Rnic, Words};
+use crate::words;
+
+/// The write bit of a window's rights.
+pub const RIGHT_WRITE: u64 = 1;
+/// The read bit of a window's rights.
+pub const RIGHT_READ: u64 = 2;
+
+/// What a window is registered with; its STag is its number times 256 plus the key.
+#[derive(Clone, Copy, Debug, PartialEq, Eq)]
+pub struct Window {
+    pub key: u64,
+    pub base: u64,
+    pub length: u64,
+    pub place: u64,
+    pub rights: u64,
+}
+
+/// A receiver with four domains, which owns its state; the store is lent at each receive.
+#[derive(Clone)]
+pub struct Device {
+    state: Box<Rnic>,
+}
+
+impl Default for Device {
+    /// Gives the same as `new`.
+    fn default() -> Self {
+        Device::new()
+    }
+}
+
+impl fmt::Debug for Device {
+    /// Writes the type's name alone, since the state is opaque.
+    fn fmt(&self, out: &mut fmt::Formatter<'_>) -> fmt::Result {
+        out.debug_struct("Device").finish_non_exhaustive()
+    }
+}
+
+impl Device {
+    /// Gives the device that a refused opening leaves: of length 0, with empty parts and no stream open.
+    pub fn new() -> Self {
+        let mut device = Device {
+            state: Box::new(Rnic::ZERO),
+        };
+        // The answer is refusal 1, since no store has length 0; the state is then the library's own.
+        device.call(call::OPEN, &[]);
+        device
+    }
+
+    /// Opens the device anew over a store of this length with a part for each domain; refused, it is as a new one.
+    pub fn open(&mut self, length: u64, parts: [Range<u64>; 4]) -> Result<(), Error> {
+        let [a, b, c, d] = parts;
+        let ends = [
+            length, a.start, a.end, b.start, b.end, c.start, c.end, d.start, d.end,
+        ];
+        words::done(&self.call(call::OPEN, &ends))
+    }
+
+    /// Opens a stream with the CRC on or off.
+    pub fn open_stream(&mut self, stream: u64, crc: bool) -> Result<(), Error> {
+        words::done(&self.call(call::OPEN_STREAM, &[stream, u64::from(crc)]))
+    }
+
+    /// Closes a stream and gives what was left on it.
+    pub fn close_stream(&mut self, stream: u64) -> Result<Closed, Error> {
+        words::closed(&self.call(call::CLOSE_STREAM, &[stream]))
+    }
+
+    /// Registers a window under its number.
+    pub fn register(&mut self, number: u64, window: Window) -> Result<(), Error> {
+        let Window {
+            key,
+            base,
+            length,
+            place,
+            rights,
+        } = window;
+        let arguments = [number, key, base, length, place, rights];
+        words::done(&self.call(call::REGISTER, &arguments))
+    }
+
+    /// Drops a live window.
+    pub fn drop_window(&mut self, number: u64) -> Result<(), Error> {
+        words::done(&self.call(call::DROP_WINDOW, &[number]))
+    }
+
+    /// Posts a receive buffer at the end of a stream's queue.
+    pub fn post(&mut self, stream: u64, start: u64, length: u64) -> Result<(), Error> {
+        words::done(&self.call(call::POST, &[stream, start, length]))
+    }
+
+    /// Takes the oldest read that waits on a stream.
+    pub fn take(&mut self, stream: u64) -> Result<ReadRequest, Error> {
+        words::read_request(&self.call(call::TAKE, &[stream]))
+    }
+
+    /// Counts the live windows of a domain.
+    pub fn live_count(&mut self, domain: u64) -> Result<u32, Error> {
+        words::counted(&self.call(call::LIVE_COUNT, &[domain]))
+    }
+
+    /// Gives the lowest free one of a domain's sixteen slots, 16 if there is none.
+    pub fn lowest_free(&mut self, domain: u64) -> Result<u32, Error> {
+        words::counted(&self.call(call::LOWEST_FREE, &[domain]))
+    }
+
+    /// Takes the first FPDU of some bytes for a stream; the whole store is lent.
+    pub fn receive(
+        &mut self,
+        store: &mut [u8],
+        stream: u64,
+        bytes: &[u8],
+    ) -> Result<Received, Error> {
+        let mut answer = [0; 8];
+        // SAFETY: each pointer is that of a reference held for the call, with its slice's own length; the state, the
+        // store and the answer are borrowed for writing, so none of the four overlaps another.
+        unsafe {
+            raw::rnic_c_receive(
+                &mut *self.state,
+                store.as_mut_ptr(),
+                store.len(),
+                stream,
+                bytes.as_ptr(),
+                bytes.len(),
+                &mut answer,
+            );
+        }
+        words::received(&answer)
+    }
+
+    /// Makes a call that is lent neither store nor bytes and gives its answer's words; arguments left out are 0.
+    fn call(&mut self, number: u64, given: &[u64]) -> Words {
+        let mut arguments: Arguments = [0; 9];
+        for (argument, value) in arguments.iter_mut().zip(given) {
+            *argument = *value;
+        }
+        let mut answer = [0; 8];
+        let store: &mut [u8] = &mut [];
+        let bytes: &[u8] = &[];
+        // SAFETY: as in `receive`; the two slices are empty, and their pointers are not null.
+        unsafe {
+            raw::rnic_c_call(
+                &mut *self.state,
+                store.as_mut_ptr(),
+                store.len(),
+                number,
+                &arguments,
+                bytes.as_ptr(),
+                bytes.len(),
+                &mut answer,
+            );
+        }
+        answer
+    }
+}
+
+/// Gives the CRC-32C of some bytes, by the proved routine that receive uses.
+pub fn crc32c(bytes: &[u8]) -> u32 {
+    // SAFETY: the pointer and the length are those of a slice that is held for the call.
+    unsafe { raw::rnic_c_crc32c(bytes.as_ptr(), bytes.len()) }
+}

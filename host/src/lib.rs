@@ -1,0 +1,36 @@
+//! A device of the proved iWARP receiver, held by a Rust program.
+//!
+//! [`Device`] holds the state of four protection domains; the program keeps the store, up to 16 MiB, and lends it at
+//! each [`Device::receive`]. Every function answers whatever the numbers and bytes are, and none panics. The work is
+//! done by the proved static library; here its answer words become [`Received`], [`Closed`], [`ReadRequest`] or
+//! [`Error`], and the bytes of the state are kept where nothing else writes them.
+//!
+//! A peer writes four bytes into a window:
+//!
+//! ```
+//! use host::{Device, Event, Received, Window, RIGHT_WRITE};
+//!
+//! let mut store = vec![0; 4096];
+//! let mut device = Device::new();
+//! device.open(4096, [0..1024, 1024..2048, 2048..3072, 3072..4096])?;
+//! let window = Window { key: 5, base: 4096, length: 4, place: 1024, rights: RIGHT_WRITE };
+//! device.register(17, window)?;
+//! device.open_stream(4, false)?;
+//!
+//! let frame = [
+//!     0x00, 0x12, 0xC1, 0x40, 0x00, 0x00, 0x11, 0x05, 0x00, 0x00, 0x00, 0x00,
+//!     0x00, 0x00, 0x10, 0x00, 0xDE, 0xAD, 0xBE, 0xEF, 0x00, 0x00, 0x00, 0x00,
+//! ];
+//! let answer = device.receive(&mut store, 4, &frame)?;
+//! assert_eq!(answer, Received::Taken { total: 24, event: Event::None });
+//! assert_eq!(store[1024..1028], [0xDE, 0xAD, 0xBE, 0xEF]);
+//! # Ok::<(), host::Error>(())
+//! ```
+
+mod answer;
+mod device;
+pub mod raw;
+mod words;
+
+pub use answer::{Closed, Error, Event, Fault, ReadRequest, Received};
+pub use device::{crc32c, Device, Window, RIGHT_READ, RIGHT_WRITE};

@@ -1,0 +1,90 @@
+//! The C interface as `include/rnic.h` declares it; [`crate::Device`] is the safe way to it.
+
+/// Bytes of a device's state: `RNIC_C_SIZE` of the header.
+pub const SIZE: usize = 7336;
+/// Where a device's state may start: `RNIC_C_ALIGN` of the header.
+pub const ALIGN: usize = 8;
+
+/// A device's state, `struct rnic` of the header; all zeros is the device that a refused opening leaves.
+#[derive(Clone, Copy)]
+#[repr(C, align(8))]
+pub struct Rnic {
+    opaque: [u8; SIZE],
+}
+
+impl Rnic {
+    /// The state that a refused opening leaves: every field is 0, which is a value of each.
+    pub const ZERO: Rnic = Rnic { opaque: [0; SIZE] };
+}
+
+/// The nine argument words of a call, those that it does not use being passed over.
+pub type Arguments = [u64; 9];
+/// The eight words of an answer, the first its kind and those without a use 0.
+pub type Words = [u64; 8];
+
+/// The numbers of the calls.
+pub mod call {
+    pub const OPEN: u64 = 0;
+    pub const OPEN_STREAM: u64 = 1;
+    pub const CLOSE_STREAM: u64 = 2;
+    pub const REGISTER: u64 = 3;
+    pub const DROP_WINDOW: u64 = 4;
+    pub const POST: u64 = 5;
+    pub const TAKE: u64 = 6;
+    pub const LIVE_COUNT: u64 = 7;
+    pub const LOWEST_FREE: u64 = 8;
+    pub const RECEIVE: u64 = 9;
+}
+
+/// The kinds of answers, which stand in an answer's first word.
+pub mod kind {
+    pub const REFUSED: u64 = 0;
+    pub const DONE: u64 = 1;
+    pub const CLOSED: u64 = 2;
+    pub const READ: u64 = 3;
+    pub const COUNTED: u64 = 4;
+    pub const WAIT: u64 = 5;
+    pub const TAKEN: u64 = 6;
+    pub const SENT: u64 = 7;
+    pub const SENT_INVALIDATING: u64 = 8;
+    pub const TERMINATED: u64 = 9;
+    pub const ENDED: u64 = 10;
+}
+
+extern "C" {
+    /// Makes the call of a number; a number that is no call's is answered as refusal 1.
+    ///
+    /// # Safety
+    /// `device`, `arguments` and `answer` point at values that nothing else uses meanwhile, `store` at `store_len`
+    /// bytes and `bytes` at `bytes_len`, none of which overlap; a length of 0 needs a pointer that is not null.
+    pub fn rnic_c_call(
+        device: *mut Rnic,
+        store: *mut u8,
+        store_len: usize,
+        number: u64,
+        arguments: *const Arguments,
+        bytes: *const u8,
+        bytes_len: usize,
+        answer: *mut Words,
+    );
+
+    /// Takes the first FPDU of some bytes for a stream: the call of number 9, without the way through the numbers.
+    ///
+    /// # Safety
+    /// As for `rnic_c_call`.
+    pub fn rnic_c_receive(
+        device: *mut Rnic,
+        store: *mut u8,
+        store_len: usize,
+        stream: u64,
+        bytes: *const u8,
+        bytes_len: usize,
+        answer: *mut Words,
+    );
+
+    /// Gives the CRC-32C of some bytes.
+    ///
+    /// # Safety
+    /// `bytes` points at `bytes_len` bytes; a length of 0 needs a pointer that is not null.
+    pub fn rnic_c_crc32c(bytes: *const u8, bytes_len: usize) -> u32;
+}

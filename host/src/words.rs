@@ -1,0 +1,129 @@
+//! An answer's words, read as what the call made answers.
+
+use crate::answer::{Closed, Error, Event, Fault, ReadRequest, Received};
+use crate::raw::{kind, Words};
+
+/// Gives what a reader finds in the words, or the refusal or the words where it finds nothing.
+fn read<T>(words: &Words, reader: fn(&Words) -> Option<T>) -> Result<T, Error> {
+    let refused = || match *words {
+        [kind::REFUSED, number, 0, 0, 0, 0, 0, 0] => field(number).map(Error::Refused),
+        _ => None,
+    };
+    reader(words).ok_or_else(|| refused().unwrap_or(Error::Unexpected(*words)))
+}
+
+/// Gives a word as its field's type, or nothing where it does not fit.
+fn field<T: TryFrom<u64>>(word: u64) -> Option<T> {
+    T::try_from(word).ok()
+}
+
+/// Reads the answer of a call that gives nothing back.
+pub(crate) fn done(words: &Words) -> Result<(), Error> {
+    read(words, |words| match *words {
+        [kind::DONE, 0, 0, 0, 0, 0, 0, 0] => Some(()),
+        _ => None,
+    })
+}
+
+/// Reads the answer of closing a stream.
+pub(crate) fn closed(words: &Words) -> Result<Closed, Error> {
+    read(words, |words| match *words {
+        [kind::CLOSED, buffers, reads, 0, 0, 0, 0, 0] => Some(Closed {
+            buffers: field(buffers)?,
+            reads: field(reads)?,
+        }),
+        _ => None,
+    })
+}
+
+/// Reads the answer of taking a read.
+pub(crate) fn read_request(words: &Words) -> Result<ReadRequest, Error> {
+    read(words, |words| match *words {
+        [kind::READ, sink_stag, sink_to, size, source_stag, source_to, 0, 0] => Some(ReadRequest {
+            sink_stag: field(sink_stag)?,
+            sink_to,
+            size: field(size)?,
+            source_stag: field(source_stag)?,
+            source_to,
+        }),
+        _ => None,
+    })
+}
+
+/// Reads the answer of a question.
+pub(crate) fn counted(words: &Words) -> Result<u32, Error> {
+    read(words, |words| match *words {
+        [kind::COUNTED, count, 0, 0, 0, 0, 0, 0] => field(count),
+        _ => None,
+    })
+}
+
+/// Reads the answer of receive.
+pub(crate) fn received(words: &Words) -> Result<Received, Error> {
+    read(words, |words| match *words {
+        [kind::WAIT, total, 0, 0, 0, 0, 0, 0] => Some(Received::Wait(field(total)?)),
+        [kind::ENDED, number, layer, etype, code, 0, 0, 0] => Some(Received::Ended(Fault {
+            number: field(number)?,
+            layer: field(layer)?,
+            etype: field(etype)?,
+            code: field(code)?,
+        })),
+        [_, total, ..] => Some(Received::Taken {
+            total: field(total)?,
+            event: event(words)?,
+        }),
+    })
+}
+
+/// Reads what a taken FPDU reports.
+fn event(words: &Words) -> Option<Event> {
+    match *words {
+        [kind::TAKEN, _, 0, 0, 0, 0, 0, 0] => Some(Event::None),
+        [kind::SENT, _, start, length, opcode, 0, 0, 0] => sent(start, length, opcode, None),
+        [kind::SENT_INVALIDATING, _, start, length, opcode, stag, 0, 0] => {
+            sent(start, length, opcode, Some(field(stag)?))
+        }
+        [kind::TERMINATED, _, layer, etype, code, 0, 0, 0] => Some(Event::Terminate {
+            layer: field(layer)?,
+            etype: field(etype)?,
+            code: field(code)?,
+        }),
+        _ => None,
+    }
+}
+
+/// Gives the event of a complete Send.
+fn sent(start: u64, length: u64, opcode: u64, invalidated: Option<u32>) -> Option<Event> {
+    Some(Event::Send {
+        start: field(start)?,
+        length: field(length)?,
+        opcode: field(opcode)?,
+        invalidated,
+    })
+}
+
+#[cfg(test)]
+mod tests {
+    use super::*;
+
+    /// Words of an unknown kind, with a value too large for its field or with a word too many are no answer.
+    #[test]
+    fn words_that_are_no_answer() {
+        let large = 1 << 40;
+        for words in [
+            [11, 0, 0, 0, 0, 0, 0, 0],
+            [u64::MAX; 8],
+            [kind::TAKEN, 20, 1, 0, 0, 0, 0, 0],
+            [kind::SENT, 32, large, 5, 3, 0, 0, 0],
+            [kind::ENDED, large, 1, 1, 1, 0, 0, 0],
+            [kind::DONE, 0, 0, 0, 0, 0, 0, 0],
+            [kind::REFUSED, 256, 0, 0, 0, 0, 0, 0],
+        ] {
+            assert_eq!(received(&words), Err(Error::Unexpected(words)));
+        }
+        let waits = [kind::WAIT, 2, 0, 0, 0, 0, 0, 0];
+        assert_eq!(done(&waits), Err(Error::Unexpected(waits)));
+        let refused = [kind::REFUSED, 9, 0, 0, 0, 0, 0, 0];
+        assert_eq!(closed(&refused), Err(Error::Refused(9)));
+    }
+}

@@ -1,0 +1,129 @@
+//! Calls one by one: the scope paper's log, and a message of each kind.
+
+use host::{Closed, Device, Error, Event, Fault, ReadRequest, Received, Window};
+use host::{RIGHT_READ, RIGHT_WRITE};
+
+/// The Write of the paper's log.
+pub const WRITE: [u8; 24] = [
+    0x00, 0x12, 0xC1, 0x40, 0x00, 0x00, 0x11, 0x05, 0x00, 0x00, 0x00, 0x00, 0x00, 0x00, 0x10, 0x00,
+    0xDE, 0xAD, 0xBE, 0xEF, 0x00, 0x00, 0x00, 0x00,
+];
+
+/// Opens the device of the paper's log, with the window's rights given.
+fn night(rights: u64) -> (Device, Vec<u8>) {
+    let mut device = Device::new();
+    let parts = [0..1024, 1024..2048, 2048..3072, 3072..4096];
+    device.open(4096, parts).unwrap();
+    let window = Window {
+        key: 5,
+        base: 4096,
+        length: 4,
+        place: 1024,
+        rights,
+    };
+    device.register(17, window).unwrap();
+    device.open_stream(4, false).unwrap();
+    (device, vec![0; 4096])
+}
+
+/// Gives a Taken without an event.
+fn taken(total: usize) -> Result<Received, Error> {
+    Ok(Received::Taken {
+        total,
+        event: Event::None,
+    })
+}
+
+/// Gives an ended stream's answer.
+fn ended(number: u8, layer: u8, etype: u8, code: u8) -> Result<Received, Error> {
+    Ok(Received::Ended(Fault {
+        number,
+        layer,
+        etype,
+        code,
+    }))
+}
+
+/// Frames an untagged segment, whose CRC is not looked at.
+fn untagged(opcode: u8, qn: u8, payload: &[u8]) -> Vec<u8> {
+    let mut ulpdu = vec![0x41, 0x40 | opcode, 0, 0, 0, 0];
+    ulpdu.extend([0, 0, 0, qn, 0, 0, 0, 1, 0, 0, 0, 0]);
+    ulpdu.extend(payload);
+    let mut frame = (ulpdu.len() as u16).to_be_bytes().to_vec();
+    frame.extend(ulpdu);
+    frame.resize(frame.len().next_multiple_of(4) + 4, 0);
+    frame
+}
+
+#[test]
+fn a_write_and_its_neighbours() {
+    let (mut device, mut store) = night(RIGHT_WRITE);
+    let mut receive = |bytes: &[u8]| device.receive(&mut store, 4, bytes);
+    assert_eq!(receive(&WRITE[..1]), Ok(Received::Wait(2)));
+    assert_eq!(receive(&WRITE[..23]), Ok(Received::Wait(24)));
+    assert_eq!(receive(&WRITE), taken(24));
+    let mut outside = WRITE;
+    outside[15] = 1;
+    assert_eq!(receive(&outside), ended(27, 1, 1, 1));
+    assert_eq!(receive(&WRITE), Err(Error::Refused(5)));
+    let mut expected = vec![0; 4096];
+    expected[1024..1028].copy_from_slice(&[0xDE, 0xAD, 0xBE, 0xEF]);
+    assert_eq!(store, expected);
+}
+
+#[test]
+fn rights_keys_and_lent_stores() {
+    let (mut device, mut store) = night(RIGHT_READ);
+    let lent = device.receive(&mut store[..4095], 4, &WRITE);
+    assert_eq!(lent, Err(Error::Refused(2)));
+    assert_eq!(device.receive(&mut store, 4, &WRITE), ended(35, 0, 1, 2));
+    let (mut device, _) = night(RIGHT_WRITE);
+    device.open_stream(0, false).unwrap();
+    assert_eq!(device.receive(&mut store, 0, &WRITE), ended(24, 1, 1, 2));
+    assert_eq!(device.live_count(1), Ok(1));
+    assert_eq!(device.lowest_free(1), Ok(0));
+    assert_eq!(device.drop_window(17), Ok(()));
+    assert_eq!(device.drop_window(17), Err(Error::Refused(7)));
+    assert_eq!(device.receive(&mut store, 4, &WRITE), ended(25, 1, 1, 0));
+    assert_eq!(store, vec![0; 4096]);
+}
+
+#[test]
+fn sends_reads_and_a_terminate() {
+    let (mut device, mut store) = night(RIGHT_READ);
+    assert_eq!(device.take(4), Err(Error::Refused(11)));
+    assert_eq!(device.post(4, 1100, 5), Ok(()));
+    assert_eq!(device.post(4, 1200, 5), Ok(()));
+    let event = Event::Send {
+        start: 1100,
+        length: 5,
+        opcode: 3,
+        invalidated: None,
+    };
+    let sent = device.receive(&mut store, 4, &untagged(3, 0, b"hello"));
+    assert_eq!(sent, Ok(Received::Taken { total: 32, event }));
+    assert_eq!(store[1100..1105], *b"hello");
+    let mut request = [0; 28];
+    (request[3], request[11], request[15]) = (7, 8, 4);
+    (request[18], request[19], request[26]) = (0x11, 5, 0x10);
+    let asked = device.receive(&mut store, 4, &untagged(1, 1, &request));
+    assert_eq!(asked, taken(52));
+    let mut other = device.clone();
+    let read = ReadRequest {
+        sink_stag: 7,
+        sink_to: 8,
+        size: 4,
+        source_stag: 0x1105,
+        source_to: 4096,
+    };
+    assert_eq!(device.take(4), Ok(read));
+    let (layer, etype, code) = (1, 2, 0x34);
+    let event = Event::Terminate { layer, etype, code };
+    let gone = device.receive(&mut store, 4, &untagged(7, 2, &[0x12, 0x34, 0, 0]));
+    assert_eq!(gone, Ok(Received::Taken { total: 28, event }));
+    let (buffers, reads) = (1, 0);
+    assert_eq!(device.close_stream(4), Ok(Closed { buffers, reads }));
+    // A copy is a device of its own: its read still waits.
+    let (buffers, reads) = (1, 1);
+    assert_eq!(other.close_stream(4), Ok(Closed { buffers, reads }));
+}

@@ -1,0 +1,58 @@
+//! The header and this crate say the same: size, alignment, the calls' numbers and the answers' kinds.
+
+use std::fs;
+use std::path::Path;
+
+use host::raw::{call, kind, Rnic, ALIGN, SIZE};
+
+/// Reads the header.
+fn header() -> String {
+    let path = Path::new(env!("CARGO_MANIFEST_DIR")).join("../include/rnic.h");
+    fs::read_to_string(path).unwrap()
+}
+
+/// Gives the number that follows a text of the header, which stands there once.
+fn number_after(header: &str, text: &str) -> Option<u64> {
+    let mut found = header.split(text).skip(1);
+    let (rest, None) = (found.next()?, found.next()) else {
+        return None;
+    };
+    let digits = rest.split(|next: char| !next.is_ascii_digit()).next()?;
+    digits.parse().ok()
+}
+
+#[test]
+fn header_and_crate_agree() {
+    let header = header();
+    let defined = |name| number_after(&header, &format!("#define {name} "));
+    assert_eq!(defined("RNIC_C_SIZE"), Some(SIZE as u64));
+    assert_eq!(defined("RNIC_C_ALIGN"), Some(ALIGN as u64));
+    assert_eq!(std::mem::size_of::<Rnic>(), SIZE);
+    assert_eq!(std::mem::align_of::<Rnic>(), ALIGN);
+    for (name, number) in [
+        ("OPEN", call::OPEN),
+        ("OPEN_STREAM", call::OPEN_STREAM),
+        ("CLOSE_STREAM", call::CLOSE_STREAM),
+        ("REGISTER", call::REGISTER),
+        ("DROP_WINDOW", call::DROP_WINDOW),
+        ("POST", call::POST),
+        ("TAKE", call::TAKE),
+        ("LIVE_COUNT", call::LIVE_COUNT),
+        ("LOWEST_FREE", call::LOWEST_FREE),
+        ("RECEIVE", call::RECEIVE),
+        ("REFUSED", kind::REFUSED),
+        ("DONE", kind::DONE),
+        ("CLOSED", kind::CLOSED),
+        ("READ", kind::READ),
+        ("COUNTED", kind::COUNTED),
+        ("WAIT", kind::WAIT),
+        ("TAKEN", kind::TAKEN),
+        ("SENT", kind::SENT),
+        ("SENT_INVALIDATING", kind::SENT_INVALIDATING),
+        ("TERMINATED", kind::TERMINATED),
+        ("ENDED", kind::ENDED),
+    ] {
+        let found = number_after(&header, &format!(" RNIC_{name} = "));
+        assert_eq!(found, Some(number), "{name}");
+    }
+}

@@ -1,0 +1,10 @@
+//! The C interface as a Rust program sees it: its layout, its calls, the stored scripts, and random
+//! nights beside the second program.
+
+mod calls;
+mod header;
+mod inputs;
+mod layout;
+mod nights;
+mod stored;
+mod support;

@@ -1,0 +1,103 @@
+//! The safe functions as a device for scripts.
+
+use host::{Device, Error, Event, Received, Window};
+use oracle::command::Command;
+
+use super::Calls;
+
+impl Calls for Device {
+    fn call(&mut self, command: &Command, store: &mut [u8]) -> String {
+        answer(self, command, store).unwrap_or_else(|error| error.to_string())
+    }
+}
+
+/// Makes the call of a command and writes its answer.
+fn answer(device: &mut Device, command: &Command, store: &mut [u8]) -> Result<String, Error> {
+    Ok(match command {
+        Command::Open { length, parts } => {
+            device.open(*length, parts.map(|part| part.start..part.end))?;
+            String::from("opened")
+        }
+        Command::Stream { stream, crc } => done(device.open_stream(*stream, *crc)?),
+        Command::Close(stream) => {
+            let closed = device.close_stream(*stream)?;
+            format!("closed {} {}", closed.buffers, closed.reads)
+        }
+        Command::Register { .. } => register(device, command)?,
+        Command::Drop(window) => done(device.drop_window(*window)?),
+        Command::Post {
+            stream,
+            start,
+            length,
+        } => done(device.post(*stream, *start, *length)?),
+        Command::Receive { stream, bytes, .. } => received(device.receive(store, *stream, bytes)?),
+        Command::Take(stream) => {
+            let read = device.take(*stream)?;
+            let (sink, source) = (read.sink_stag, read.source_stag);
+            format!(
+                "read {sink} {} {} {source} {}",
+                read.sink_to, read.size, read.source_to
+            )
+        }
+        Command::Live(domain) => format!("live {}", device.live_count(*domain)?),
+        Command::Free(domain) => format!("free {}", device.lowest_free(*domain)?),
+        _ => String::from("no call of the device"),
+    })
+}
+
+/// Writes the answer of a call that gives nothing back.
+fn done((): ()) -> String {
+    String::from("done")
+}
+
+/// Registers a window.
+fn register(device: &mut Device, command: &Command) -> Result<String, Error> {
+    if let Command::Register {
+        window: number,
+        key,
+        base,
+        length,
+        place,
+        rights,
+    } = *command
+    {
+        let window = Window {
+            key,
+            base,
+            length,
+            place,
+            rights,
+        };
+        device.register(number, window)?;
+    }
+    Ok(done(()))
+}
+
+/// Writes what receive answers.
+fn received(answer: Received) -> String {
+    match answer {
+        Received::Wait(total) => format!("wait {total}"),
+        Received::Taken { total, event } => format!("taken {total}{}", reported(event)),
+        Received::Ended(fault) => format!(
+            "refused {} {}/{}/{:02X}",
+            fault.number, fault.layer, fault.etype, fault.code
+        ),
+    }
+}
+
+/// Writes an event, a space before it where there is one.
+fn reported(event: Event) -> String {
+    match event {
+        Event::None => String::new(),
+        Event::Send {
+            start,
+            length,
+            opcode,
+            invalidated,
+        } => {
+            let stag = invalidated.map_or(String::new(), |stag| format!(" stag {stag}"));
+            format!(" send {start} {length} {opcode}{stag}")
+        }
+        Event::Terminate { layer, etype, code } => format!(" terminate {layer} {etype} {code}"),
+    }
+}

@@ -1,0 +1,111 @@
+//! Scripts run on a device held through the C interface, line for line beside the second program.
+
+pub mod device;
+pub mod numbered;
+
+use oracle::command::{parse, Command, Line};
+use oracle::generate::nights;
+use oracle::hex;
+use oracle::script::Interpreter;
+use oracle::tally::Tally;
+
+/// A store so small that all of it is compared after each line.
+const SMALL: usize = 65_536;
+
+/// A device whose calls can be made by the commands of a script.
+pub trait Calls {
+    /// Makes the call of a command, with the store lent, and gives the script's answer.
+    fn call(&mut self, command: &Command, store: &mut [u8]) -> String;
+}
+
+/// A device with its store and the count of bytes that it is lent.
+pub struct Program<D> {
+    device: D,
+    store: Vec<u8>,
+    lent: usize,
+}
+
+impl<D: Calls> Program<D> {
+    /// Starts with a zero store of this size.
+    pub fn new(device: D, size: usize) -> Self {
+        Program {
+            device,
+            store: vec![0; size],
+            lent: 0,
+        }
+    }
+
+    /// Runs one line; a comment or an empty line has no answer.
+    pub fn run_line(&mut self, line: &[u8]) -> Option<String> {
+        match parse(line) {
+            Line::Silent => None,
+            Line::Bad => Some(String::from("bad")),
+            Line::Command(command) => Some(self.execute(&command)),
+        }
+    }
+
+    /// Runs one command: a range past the store's size is answered `bad`.
+    fn execute(&mut self, command: &Command) -> String {
+        let answer = match command {
+            Command::Bytes { start, length } => self
+                .range(*start, *length)
+                .map(|range| format!("bytes {}", hex::encode(&self.store[range]))),
+            Command::Fill { start, bytes } => self.range(*start, bytes.len() as u64).map(|range| {
+                self.store[range].copy_from_slice(bytes);
+                String::from("done")
+            }),
+            _ => self.call(command),
+        };
+        answer.unwrap_or_else(|| String::from("bad"))
+    }
+
+    /// Makes a call of the device with the front of the store lent.
+    fn call(&mut self, command: &Command) -> Option<String> {
+        if let Command::Open { length, .. } = command {
+            self.lent = self.store.len().min(*length as usize);
+        }
+        let lent = match command {
+            Command::Receive {
+                lent: Some(lent), ..
+            } => *lent as usize,
+            _ => self.lent,
+        };
+        let store = self.store.get_mut(..lent)?;
+        Some(self.device.call(command, store))
+    }
+
+    /// Gives a range of the store, or nothing where it goes past the store's size.
+    fn range(&self, start: u64, length: u64) -> Option<std::ops::Range<usize>> {
+        let end = start.checked_add(length)?;
+        (end <= self.store.len() as u64).then_some(start as usize..end as usize)
+    }
+}
+
+/// Runs a random night over a store of this size on both programs, comparing each line and the store, and counts.
+pub fn compare(device: impl Calls, size: usize, seed: u64, count: u64, tally: &mut Tally) {
+    let mut script = Vec::new();
+    nights::write_script_over(size, seed, count, &mut script).unwrap();
+    let mut second = Interpreter::with_store(size);
+    let mut ours = Program::new(device, size);
+    let lines = script.strip_suffix(b"\n").unwrap().split(|&b| b == b'\n');
+    for (at, line) in lines.enumerate() {
+        let (answer, expected) = (ours.run_line(line), second.run_line(line));
+        let same_store = size > SMALL || ours.store == second.store;
+        assert!(
+            answer == expected && same_store,
+            "seed {seed}, line {at}: {:?} was answered {:?}, and not {:?}; the store is the same: {same_store}",
+            clip(&String::from_utf8_lossy(line)),
+            answer.as_deref().map(clip),
+            expected.as_deref().map(clip),
+        );
+        if let Some(answer) = answer {
+            tally.add(line, &answer);
+        }
+    }
+    assert!(ours.store == second.store, "seed {seed}: the store");
+}
+
+/// Gives the front of a text that may be as long as the store.
+fn clip(text: &str) -> &str {
+    text.get(..300).unwrap_or(text)
+}
