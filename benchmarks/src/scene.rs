@@ -1,0 +1,133 @@
+//! What is received, and by what device: eight FPDUs, whose payloads all go to the front of the store.
+
+use oracle::ddp::{TAGGED_HEADER, UNTAGGED_HEADER};
+use oracle::generate::draft::{frame, Draft};
+use oracle::generate::prng::Prng;
+use oracle::mpa::LENGTH_FIELD;
+use oracle::rdmap;
+
+use crate::receiver::Receiver;
+
+/// FPDUs of a scene, as many as buffers can wait on a stream.
+pub const FRAMES: u64 = 8;
+/// Streams that the Sends go to in turn, all of one domain.
+pub const SEND_STREAMS: u64 = 4;
+/// Bytes of the first domain's windows and buffers, which all stand at the front of the store.
+const ROOM: u64 = 2048;
+/// Bytes of each of the other domains, and of their windows and buffers.
+const OTHER: u64 = 256;
+/// The tagged offset at which each window starts.
+const BASE: u64 = 4096;
+/// The key of each window.
+const KEY: u64 = 5;
+
+/// The kinds of messages that are timed.
+#[derive(Clone, Copy, Debug, PartialEq, Eq)]
+pub enum Kind {
+    Write,
+    Send,
+}
+
+/// What is set up and received.
+#[derive(Clone, Copy, Debug)]
+pub struct Scene {
+    pub kind: Kind,
+    pub payload: usize,
+    pub crc: bool,
+    pub store: u64,
+    pub windows: u64,
+    pub streams: u64,
+}
+
+impl Scene {
+    /// Gives the scene of the main table: a store of a mebibyte, one window, and the streams that are used.
+    pub fn of(kind: Kind, payload: usize, crc: bool) -> Self {
+        let (store, windows, streams) = (1 << 20, 1, SEND_STREAMS);
+        Scene {
+            kind,
+            payload,
+            crc,
+            store,
+            windows,
+            streams,
+        }
+    }
+
+    /// Writes the FPDUs: Writes to offsets that rise by a byte, or Sends of one segment with rising MSNs.
+    pub fn frames(&self) -> Vec<Vec<u8>> {
+        let mut prng = Prng::new(1);
+        let segment = |number| {
+            let mut draft = Draft::new(self.kind == Kind::Write, rdmap::WRITE);
+            if self.kind == Kind::Write {
+                (draft.stag, draft.to) = (KEY as u32, BASE + number);
+            } else {
+                (draft.opcode, draft.msn) = (rdmap::SEND, number as u32 + 1);
+            }
+            draft.payload = prng.bytes(self.payload);
+            frame(&draft.ulpdu(), 0)
+        };
+        (0..FRAMES).map(segment).collect()
+    }
+
+    /// Gives where in the FPDU of a number the payload lies, and its place in the store.
+    pub fn span(&self, number: usize) -> (std::ops::Range<usize>, usize) {
+        let (start, place) = match self.kind {
+            Kind::Write => (LENGTH_FIELD + TAGGED_HEADER, number),
+            Kind::Send => (LENGTH_FIELD + UNTAGGED_HEADER, 0),
+        };
+        (start..start + self.payload, place)
+    }
+
+    /// Gives the part of a domain: the first has all but what the others need.
+    fn part(&self, domain: u64) -> (u64, u64) {
+        let end = self.store - (3 - domain) * OTHER;
+        if domain == 0 {
+            (0, end)
+        } else {
+            (end - OTHER, end)
+        }
+    }
+
+    /// Gives the place and the length of each window and buffer of a domain.
+    fn extent(&self, domain: u64) -> (u64, u64) {
+        let room = if domain == 0 { ROOM } else { OTHER };
+        (self.part(domain).0, room)
+    }
+
+    /// Sets up a device with the windows live, and the streams open with all the buffers that they can have.
+    pub fn device<R: Receiver>(&self) -> R {
+        let mut device = R::new();
+        let parts = [0, 1, 2, 3].map(|domain| self.part(domain));
+        done(device.open(self.store, parts));
+        for window in 0..self.windows {
+            let (place, length) = self.extent(window / 16);
+            done(device.register(window, KEY, BASE, length, place));
+        }
+        for stream in 0..self.streams {
+            self.open_stream(&mut device, stream);
+        }
+        device
+    }
+
+    /// Opens a stream and posts its buffers.
+    fn open_stream<R: Receiver>(&self, device: &mut R, stream: u64) {
+        let (start, length) = self.extent(stream / 4);
+        done(device.open_stream(stream, self.crc));
+        for _ in 0..FRAMES {
+            done(device.post(stream, start, length));
+        }
+    }
+
+    /// Opens the streams of Sends anew, so that their MSNs start again and their buffers wait.
+    pub fn reopen<R: Receiver>(&self, device: &mut R) {
+        for stream in 0..SEND_STREAMS {
+            done(device.close_stream(stream));
+            self.open_stream(device, stream);
+        }
+    }
+}
+
+/// Stops where a call that sets the scene up was refused.
+fn done(answer: bool) {
+    assert!(answer, "a call that sets the scene up was refused");
+}
