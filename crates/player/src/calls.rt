@@ -1,15 +1,31 @@
 // The commands whose words are all numbers, each one call of the device. v[1] is the first number.
-use crate::report::closed;
-use crate::report::counted;
-use crate::report::outcome;
-use crate::report::taken_read;
 use crate::state::Ran;
 use crate::state::State;
 use crate::state::bad_line;
+use command::answer::first;
+use command::answer::refused;
+use command::answer::then_number;
 use command::args::Numbers;
+use report::closed;
+use report::outcome;
+use report::taken_read;
+use rnic::Count;
 use rnic::RnicDone;
 ghost use Prim.Native.Nat.{_≤_};
 ghost use lib.ListN.{length};
+
+// The word and a count, or the refusal.
+fn counted(count: Count, word: &[u8], text: &mut [u8]) -> usize
+    ensures { λ r. ⌜ r ≤ length (now (text .entry)) ⌝ }
+{
+    match count {
+        Count::Counted(n) => {
+            let at = first(word, text);
+            then_number(n as u64, text, at)
+        }
+        Count::Refused(number) => refused(number, text),
+    }
+}
 
 // What a call with nothing to tell leaves: the device, and the word or the refusal.
 pub fn ran(lent: u64, done: RnicDone, word: &[u8], text: &mut [u8]) -> Ran

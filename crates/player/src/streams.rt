@@ -1,6 +1,5 @@
 // The commands on a stream that are not numbers alone: opening one, and its peer's bytes.
 use crate::calls::ran;
-use crate::report::received;
 use crate::state::Ran;
 use crate::state::State;
 use crate::state::bad_line;
@@ -10,6 +9,7 @@ use command::args::flag_of;
 use command::args::hex_into;
 use command::args::room;
 use command::args::word;
+use report::received;
 use script::number::Number;
 use script::number::read_number;
 ghost use mathlib.Core.Path.{_≡_};

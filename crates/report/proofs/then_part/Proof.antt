@@ -1,8 +1,8 @@
 -- `then_part` meets its contract: the place after two puts lies within the text.
 use borrow.Author.Needs.{needs}
 use Rattle.command.proofs.Within.{put-twice}
-use Rattle.player.proofs.report.then_part.Statement.{statement}
-use Rattle.player.proofs.report.then_part.Tie as tie
+use Rattle.report.proofs.then_part.Statement.{statement}
+use Rattle.report.proofs.then_part.Tie as tie
 
 slice-aggregate-put-word : tie.Need-slice-aggregate-put-word
 slice-aggregate-put-word c = search needs

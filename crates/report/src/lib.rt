@@ -1,4 +1,5 @@
-// The answers to the calls of the device.
+// What a script's line is answered where it is a call of the device: one function for each kind of
+// answer, which puts it into a lent buffer and answers its length. Read `received` first.
 use command::answer::first;
 use command::answer::refused;
 use command::answer::then_number;
@@ -10,7 +11,6 @@ use domain::Event;
 use rdmap::read::ReadRequest;
 use rdmap::stream::CloseAnswer;
 use rdmap::stream::TakeAnswer;
-use rnic::Count;
 use script::hex::put_byte_hex;
 use script::number::put_number;
 use script::put::put_word;
@@ -60,19 +60,6 @@ pub fn taken_read(answer: TakeAnswer, text: &mut [u8]) -> usize
     match answer {
         TakeAnswer::Read(request) => read(request, text),
         TakeAnswer::Refused(number) => refused(number, text),
-    }
-}
-
-// The word and a count, or the refusal.
-pub fn counted(count: Count, word: &[u8], text: &mut [u8]) -> usize
-    ensures { λ r. ⌜ r ≤ length (now (text .entry)) ⌝ }
-{
-    match count {
-        Count::Counted(n) => {
-            let at = first(word, text);
-            then_number(n as u64, text, at)
-        }
-        Count::Refused(number) => refused(number, text),
     }
 }
 
