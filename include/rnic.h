@@ -72,6 +72,9 @@ void rnic_c_call(struct rnic *device, uint8_t *store, size_t store_length, uint6
 void rnic_c_receive(struct rnic *device, uint8_t *store, size_t store_length, uint64_t stream, const uint8_t *bytes,
                     size_t bytes_length, uint64_t answer[RNIC_C_WORDS]);
 
+/* The CRC-32C of bytes. A frame has it after its pad, the least significant byte first. */
+uint32_t rnic_c_crc32c(const uint8_t *bytes, size_t bytes_length);
+
 #ifdef __cplusplus
 }
 #endif

@@ -103,6 +103,10 @@ int main(void) {
     check_write();
     call("drop_window", RNIC_DROP_WINDOW, 0, 0, 0, 0, 0, 0, RNIC_DONE, 0, 0);
     call("close_stream", RNIC_CLOSE_STREAM, 0, 0, 0, 0, 0, 0, RNIC_CLOSED, 1, 0);
+    if (rnic_c_crc32c((const uint8_t *)"123456789", 9) != 0xE3069283) {
+        puts("crc32c: not the check value");
+        wrong = 1;
+    }
     call("no call", 10, 0, 0, 0, 0, 0, 0, RNIC_REFUSED, 1, 0);
     if (!wrong) {
         puts("ok");

@@ -7,6 +7,7 @@ ghost use mathlib.Core.Path.{_≡_};
 ghost use lib.ListN.{length};
 ghost use Rattle.rnic_c.specs.Call.{called, calledStore, calledReceive};
 ghost use Rattle.rnic.specs.Rnic.{rnicReceivedStore};
+ghost use Rattle.crc32c.specs.Crc.{crcOf};
 use crate::calls::call_close_stream;
 use crate::calls::call_drop_window;
 use crate::calls::call_live_count;
@@ -87,4 +88,12 @@ pub extern "C" fn rnic_c_receive(
 {
     let next = call_receive(*device, store, stream, bytes, answer);
     *device = next;
+}
+
+// The CRC-32C of bytes, by which a program can write frames of its own.
+#[no_mangle]
+pub extern "C" fn rnic_c_crc32c(bytes: &[u8]) -> u32
+    ensures { λ r. ⌜ r ≡ crcOf (now (bytes .entry)) ⌝ }
+{
+    crc32c::crc32c(bytes)
 }
