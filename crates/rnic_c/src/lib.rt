@@ -18,10 +18,13 @@ use crate::calls::call_post;
 use crate::calls::call_receive;
 use crate::calls::call_register;
 use crate::calls::call_take;
+use crate::entry::owner_of;
+use crate::entry::receive_entry;
 use crate::words::words;
 use rnic::Rnic;
 
 mod calls;
+mod entry;
 mod words;
 
 // The call of a number, with its nine numbers, its bytes and the store; the answer's words.
@@ -75,7 +78,8 @@ pub extern "C" fn rnic_c_call(
     *device = next;
 }
 
-// The device's receive by itself: what `rnic_c_call` does with the number 9, with one dispatch less.
+// The device's receive by itself: what `rnic_c_call` does with the number 9, but that the owner's
+// entry alone is copied and not the whole device.
 #[no_mangle]
 pub extern "C" fn rnic_c_receive(
     device: &mut Rnic,
@@ -86,8 +90,10 @@ pub extern "C" fn rnic_c_receive(
 )
     ensures { λ _. ⌜ (now (device .exit) ≡ calledReceive (now (device .entry)) (length (now (store .entry))) stream (now (bytes .entry)) .rnic) × (now (answer .exit) ≡ calledReceive (now (device .entry)) (length (now (store .entry))) stream (now (bytes .entry)) .words) × (now (store .exit) ≡ rnicReceivedStore (now (device .entry)) stream (now (bytes .entry)) (now (store .entry))) ⌝ }
 {
-    let next = call_receive(*device, store, stream, bytes, answer);
-    *device = next;
+    let owner = owner_of(stream);
+    let entry = device.domains[owner];
+    let next = receive_entry(entry, device.len, store, stream, bytes, answer);
+    device.domains[owner] = next;
 }
 
 // The CRC-32C of bytes, by which a program can write frames of its own.
