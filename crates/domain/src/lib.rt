@@ -17,32 +17,21 @@ ghost use Rattle.domain.specs.Domain.{
   domainRegistered,
   domainDropped,
   invalidating,
-  sentEvent,
-  takenWith,
-  applied,
-  placedFrom,
-  appliedBytes,
-  receivedSegment,
-  receivedSegmentBytes,
   domainReceived,
   domainReceivedBytes,
 };
-ghost use Rattle.ddp.specs.Segment.{segmentRead};
+use crate::parts::receive_parts;
 use ddp::part::Outcome;
 use ddp::part::Part;
 use ddp::refusal::Refusal;
-use ddp::segment::SegmentRead;
-use ddp::segment::read_segment;
 use ddp::window::Window;
 use rdmap::message::Invalidate;
-use rdmap::message::Verdict;
-use rdmap::message::judge_tagged_segment;
-use rdmap::message::judge_untagged_segment;
 use rdmap::stream::CloseAnswer;
-use rdmap::stream::Readiness;
 use rdmap::stream::Stream;
 use rdmap::stream::TakeAnswer;
 use rdmap::stream::closed_stream;
+
+pub mod parts;
 
 // What a domain holds.
 #[repr(C)]
@@ -257,154 +246,6 @@ fn invalidate(d: Domain, which: Invalidate) -> Domain
     }
 }
 
-// The event of a Send that is complete.
-fn sent_event(start: u32, len: u32, opcode: u8, which: Invalidate) -> Event
-    ensures { λ r. ⌜ r ≡ sentEvent start len opcode which ⌝ }
-{
-    match which {
-        Invalidate::NoStag => Event::Sent { start, len, opcode },
-        Invalidate::Stag { slot: _, stag } => Event::SentInvalidating {
-            start,
-            len,
-            opcode,
-            stag,
-        },
-    }
-}
-
-// What a verdict makes of the domain, and the answer.
-fn apply(d: Domain, slot: usize, total: usize, verdict: Verdict) -> Received
-    requires { ⌜ slot < 4 ⌝ }
-    ensures { λ r. ⌜ r ≡ applied d slot total verdict ⌝ }
-{
-    let s = d.streams[slot];
-    match verdict {
-        Verdict::Refused(refusal) => Received {
-            answer: Answer::Ended(refusal),
-            domain: with_stream(d, slot, s.end(refusal)),
-        },
-        Verdict::Nothing => taken(d, total, Event::NoEvent),
-        Verdict::Write(_) => taken(d, total, Event::NoEvent),
-        Verdict::SendMore {
-            at: _,
-            opcode,
-            taken: n,
-        } => {
-            taken(
-                with_stream(d, slot, s.sending(opcode, n)),
-                total,
-                Event::NoEvent,
-            )
-        }
-        Verdict::SendLast {
-            at: _,
-            opcode,
-            start,
-            len,
-            invalidate: which,
-        } => {
-            let next = invalidate(with_stream(d, slot, s.sent()), which);
-            taken(next, total, sent_event(start, len, opcode, which))
-        }
-        Verdict::Read(read) => taken(with_stream(d, slot, s.queued(read)), total, Event::NoEvent),
-        Verdict::Terminate { layer, etype, code } => {
-            taken(
-                with_stream(d, slot, s.terminated()),
-                total,
-                Event::Terminated { layer, etype, code },
-            )
-        }
-    }
-}
-
-// An FPDU is taken, with an event.
-fn taken(d: Domain, total: usize, event: Event) -> Received
-    ensures { λ r. ⌜ r ≡ takenWith d total event ⌝ }
-{
-    Received {
-        answer: Answer::Taken { total, event },
-        domain: d,
-    }
-}
-
-// Places a payload at a place of the store in the domain's bytes, which start at start.
-fn place_from(bytes: &mut [u8], start: u32, at: u64, payload: &[u8])
-    ensures { λ _. ⌜ now (bytes .exit) ≡ placedFrom start at (now (payload .entry)) (now (bytes .entry)) ⌝ }
-{
-    let from = start as u64;
-    if from <= at {
-        ddp::place::place(bytes, at - from, payload);
-    }
-}
-
-// What a verdict makes of the domain's bytes.
-fn place_by(bytes: &mut [u8], start: u32, verdict: Verdict, payload: &[u8])
-    ensures { λ _. ⌜ now (bytes .exit) ≡ appliedBytes start verdict (now (payload .entry)) (now (bytes .entry)) ⌝ }
-{
-    match verdict {
-        Verdict::Refused(_) => {}
-        Verdict::Nothing => {}
-        Verdict::Write(at) => place_from(bytes, start, at, payload),
-        Verdict::SendMore {
-            at,
-            opcode: _,
-            taken: _,
-        } => place_from(bytes, start, at, payload),
-        Verdict::SendLast {
-            at,
-            opcode: _,
-            start: _,
-            len: _,
-            invalidate: _,
-        } => place_from(bytes, start, at, payload),
-        Verdict::Read(_) => {}
-        Verdict::Terminate {
-            layer: _,
-            etype: _,
-            code: _,
-        } => {}
-    }
-}
-
-// Takes the first FPDU of bytes for an open stream of the domain of this number, whose bytes are lent.
-fn receive_open(d: Domain, number: u64, store: &mut [u8], slot: usize, bytes: &[u8]) -> Received
-    requires { ⌜ slot < 4 ⌝ }
-    ensures { λ r. ⌜ (r ≡ receivedSegment d number slot (now (bytes .entry)) (segmentRead (streamAt d slot .crc) (now (bytes .entry)))) × (now (store .exit) ≡ receivedSegmentBytes d number slot (now (bytes .entry)) (now (store .entry)) (segmentRead (streamAt d slot .crc) (now (bytes .entry)))) ⌝ }
-{
-    let s = d.streams[slot];
-    let windows = d.windows;
-    let part = d.part;
-    match read_segment(s.crc, bytes) {
-        SegmentRead::Wait(n) => Received {
-            answer: Answer::Wait(n),
-            domain: d,
-        },
-        SegmentRead::Refused(refusal) => apply(d, slot, 0, Verdict::Refused(refusal)),
-        SegmentRead::Tagged {
-            total,
-            header,
-            start,
-            len,
-        } => {
-            let end = start + len;
-            let verdict = judge_tagged_segment(windows, number, header, len as u64);
-            place_by(store, part.start, verdict, &bytes[start..end]);
-            apply(d, slot, total, verdict)
-        }
-        SegmentRead::Untagged {
-            total,
-            header,
-            start,
-            len,
-        } => {
-            let end = start + len;
-            let verdict = judge_untagged_segment(windows, number, s, header, &bytes[start..end]);
-            place_by(store, part.start, verdict, &bytes[start..end]);
-            apply(d, slot, total, verdict)
-        }
-    }
-}
-
 // Takes the first FPDU of bytes for a stream of the domain of this number, whose bytes are lent.
 pub fn receive(d: Domain, number: u64, store: &mut [u8], slot: u64, bytes: &[u8]) -> Received
     ensures { λ r. ⌜ (r ≡ domainReceived d number slot (now (bytes .entry))) × (now (store .exit) ≡ domainReceivedBytes d number slot (now (bytes .entry)) (now (store .entry))) ⌝ }
@@ -412,18 +253,18 @@ pub fn receive(d: Domain, number: u64, store: &mut [u8], slot: u64, bytes: &[u8]
     if slot <= 3 {
         let at = slot as usize;
         let s = d.streams[at];
-        match s.ready() {
-            Readiness::Ready => receive_open(d, number, store, at, bytes),
-            Readiness::NotReady(refusal) => Received {
-                answer: Answer::Refused(refusal),
-                domain: d,
-            },
-        }
-    } else {
-        Received {
-            answer: Answer::Refused(1),
-            domain: d,
-        }
+        let windows = d.windows;
+        let part = d.part;
+        let done = receive_parts(part, windows, s, number, store, bytes);
+        let answer = done.answer;
+        let stream = done.stream;
+        let which = done.invalidate;
+        let domain = invalidate(with_stream(d, at, stream), which);
+        return Received { answer, domain };
+    }
+    Received {
+        answer: Answer::Refused(1),
+        domain: d,
     }
 }
 

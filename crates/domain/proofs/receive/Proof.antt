@@ -1,8 +1,12 @@
--- `receive` meets its contract: the test on the slot and the phase of the stream pick the case of `domainReceived`, and
--- `receive_open` does the rest.
+-- `receive` meets its contract: a stream of the domain is taken out and put back, and the law of the parts says that what
+-- `receive_parts` does is then the domain's receive.
 use mathlib.Core.Path.{sym, ap, _∙_}
-use borrow.Author.Tests.{le-leb, lt-leb}
-use Rattle.domain.specs.Domain.{receivedWhen, receivedBytesWhen, domainReceived, domainReceivedBytes}
+use borrow.Author.Tests.{lt-leb}
+use Rattle.domain.specs.Domain.{invalidating, domainReceived, domainReceivedBytes}
+use Rattle.domain.specs.Parts.{lifted}
+use Rattle.domain.specs.declared.Domain.{Domain}
+use Rattle.domain.specs.declared.Received.{Received}
+use Rattle.domain.proofs.Lift.{exchanged, parts-lifted, parts-bytes}
 use borrow.Author.Needs.{needs}
 use Rattle.domain.proofs.receive.Statement.{statement}
 use Rattle.domain.proofs.receive.Tie as tie
@@ -13,44 +17,35 @@ mul-s c = search needs
 element-copy-out-s : tie.Need-element-copy-out-s
 element-copy-out-s c = search needs
 
-ready-requires : tie.Need-ready-requires
-ready-requires c κs = search needs
+receive-parts-requires : tie.Need-receive-parts-requires
+receive-parts-requires c κs = search needs
 
-enum-told : tie.Need-enum-told
-enum-told c = search needs
+with-stream-requires : tie.Need-with-stream-requires
+with-stream-requires c κs = search needs
 
-receive-open-requires : tie.Need-receive-open-requires
-receive-open-requires c κs = search needs
-
-enum-known-refusal : tie.Need-enum-known-refusal
-enum-known-refusal c = search needs
+invalidate-requires : tie.Need-invalidate-requires
+invalidate-requires c κs = search needs
 
 same-length : tie.Need-same-length
 same-length c = search needs
 
 returns : tie.Need-returns
-unfolding domainReceived domainReceivedBytes
 returns c =
-    let a = c .before .before .before .before .before .before .before .before .before .before .before .args in
-    let e = sym (c .before .before .before .before .enum-told .given .1) ∙ c .before .before .before .before .before .before .ready .ensures in
-    let h = le-leb _ _ (c .before .before .before .before .before .before .before .before .if1 .taken) in (
-      simp h (c .before .before .receive-open .ensures .0 ∙ ap (receivedWhen (a .t1) (a .number) (a .slot) (a .bytes .now)) e),
-      simp h (c .before .before .receive-open .ensures .1 ∙ ap (receivedBytesWhen (a .t1) (a .number) (a .slot) (a .bytes .now) (a .store .now)) e),
+    let a = c .before .before .before .before .before .before .before .before .before .before .before .before .before .args in
+    let p = c .before .before .before .before .before .receive-parts in
+    let h = c .before .before .before .before .before .before .before .before .before .before .if1 .taken in (
+      ap (λ (x : Domain). record { answer = p .result .answer; domain = x })
+          (c .invalidate .ensures
+          ∙ ap (λ (x : Domain). invalidating x (p .result .invalidate)) (c .before .with-stream .ensures)
+          ∙ exchanged (a .t1) (a .slot) (p .result .stream) (p .result .invalidate))
+          ∙ ap (lifted (a .t1) (a .slot)) (p .ensures .0)
+          ∙ sym (parts-lifted (a .t1) (a .number) (a .slot) (a .bytes .now) h),
+      p .ensures .1 ∙ sym (parts-bytes (a .t1) (a .number) (a .slot) (a .bytes .now) (a .store .now) h),
     )
 
 returns-2 : tie.Need-returns-2
 unfolding domainReceived domainReceivedBytes
-returns-2 c =
-    let a = c .before .before .before .before .before .before .before .before .args in
-    let e = sym (c .before .refusal .given .1) ∙ c .before .before .before .ready .ensures in
-    let h = le-leb _ _ (c .before .before .before .before .before .if1 .taken) in (
-      simp h (ap (receivedWhen (a .t1) (a .number) (a .slot) (a .bytes .now)) e),
-      simp h (ap (receivedBytesWhen (a .t1) (a .number) (a .slot) (a .bytes .now) (a .store .now)) e),
-    )
-
-returns-3 : tie.Need-returns-3
-unfolding domainReceived domainReceivedBytes
-returns-3 c = let h = lt-leb _ _ (c .if1 .left) in (simp h, simp h)
+returns-2 c = let h = lt-leb _ _ (c .if1 .left) in (simp h, simp h)
 
 pub receive-spec : {M : Type 1} → statement M
 receive-spec =
@@ -58,11 +53,9 @@ receive-spec =
     (tie.spec
     mul-s
     element-copy-out-s
-    ready-requires
-    enum-told
-    receive-open-requires
-    enum-known-refusal
+    receive-parts-requires
+    with-stream-requires
+    invalidate-requires
     same-length
     returns
-    returns-2
-    returns-3)
+    returns-2)

@@ -2,8 +2,8 @@
 use mathlib.Core.Path.{sym, ap}
 use Rattle.domain.specs.Domain.{sentEvent}
 use borrow.Author.Needs.{needs}
-use Rattle.domain.proofs.sent_event.Statement.{statement}
-use Rattle.domain.proofs.sent_event.Tie as tie
+use Rattle.domain.proofs.parts.sent_event.Statement.{statement}
+use Rattle.domain.proofs.parts.sent_event.Tie as tie
 
 enum-told : tie.Need-enum-told
 enum-told c = search needs

@@ -1,5 +1,5 @@
--- `receive_open` meets its contract: each arm has what `segmentRead` gives, whose payload lies in the bytes, and the callees
--- give the verdict and what it makes of the domain and of its bytes.
+-- `receive_segment` meets its contract: each arm has what `segmentRead` gives, whose payload lies in the bytes, and the callees
+-- give the verdict and what it makes of the stream and of the bytes.
 use Prim.Native.Nat.{ℕ, _+_, _-_, _≤_}
 use mathlib.Core.Path.{_≡_, refl, sym, ap, ap₂, _∙_, subst}
 use mathlib.Core.List.{List}
@@ -8,29 +8,30 @@ use native.Mathlib.Omega.{arith}
 use lib.ListN.{length, take, drop}
 use Rattle.wire.specs.Wire.{part}
 use Rattle.ddp.specs.Untagged.{untaggedOf}
+use Rattle.ddp.specs.declared.part.Part.{Part}
 use Rattle.ddp.specs.declared.header.UntaggedHeader.{UntaggedHeader}
 use Rattle.ddp.specs.declared.window.Window.{Window}
 use Rattle.ddp.specs.declared.segment.SegmentRead.{SegmentRead}
 use Rattle.rdmap.specs.declared.stream.Stream.{Stream}
 use Rattle.rdmap.specs.Message.{queuesOf, untaggedVerdict}
 use Rattle.rdmap.specs.declared.message.Verdict.{Verdict}
-use Rattle.domain.specs.Domain.{streamAt, applied, appliedBytes, receivedSegment, receivedSegmentBytes}
-use Rattle.domain.specs.declared.Domain.{Domain}
-use Rattle.domain.specs.declared.Received.{Received}
+use Rattle.domain.specs.Domain.{appliedBytes}
+use Rattle.domain.specs.Parts.{partsApplied, partsSegment, partsSegmentBytes}
+use Rattle.domain.specs.declared.parts.PartsReceived.{PartsReceived}
 use Rattle.domain.proofs.Inside.{inside}
 use borrow.Author.Needs.{needs}
-use Rattle.domain.proofs.receive_open.Statement.{statement}
-use Rattle.domain.proofs.receive_open.Tie as tie
+use Rattle.domain.proofs.parts.receive_segment.Statement.{statement}
+use Rattle.domain.proofs.parts.receive_segment.Tie as tie
 
 -- what is lent of the bytes is the payload
 lent : (bytes : List ℕ) (start len : ℕ) → take (start + len - start) (drop start bytes) ≡ part bytes start len
 lent bytes start len = ap (λ (n : ℕ). take n (drop start bytes)) (add-sub-cancel-left start len)
 
 -- the payload ends in the bytes
-tagged-ends : (t : tie.After-total) → t .total .given .0 .1 .1 .0 + t .total .given .0 .1 .1 .1 .0 ≤ length (t .before .before .before .before .before .before .before .before .args .bytes .now)
+tagged-ends : (t : tie.After-total) → t .total .given .0 .1 .1 .0 + t .total .given .0 .1 .1 .1 .0 ≤ length (t .before .before .before .before .before .args .bytes .now)
 tagged-ends t = inside _ _ _ (sym (t .total .given .1) ∙ t .before .before .read-segment .ensures)
 
-untagged-ends : (t : tie.After-total2) → t .total2 .given .0 .1 .1 .0 + t .total2 .given .0 .1 .1 .1 .0 ≤ length (t .before .before .before .before .before .before .before .before .args .bytes .now)
+untagged-ends : (t : tie.After-total2) → t .total2 .given .0 .1 .1 .0 + t .total2 .given .0 .1 .1 .1 .0 ≤ length (t .before .before .before .before .before .args .bytes .now)
 untagged-ends t = inside _ _ _ (sym (t .total2 .given .1) ∙ t .before .before .read-segment .ensures)
 
 -- what an untagged segment of this payload is judged to be
@@ -38,31 +39,25 @@ abbrev untagged : List Window → ℕ → Stream → UntaggedHeader → List ℕ
 untagged windows number s h payload =
     untaggedVerdict windows number s h payload (untaggedOf (queuesOf s) (h .qn) (h .msn) (h .mo) (length payload))
 
-module _ (d : Domain) (number slot : ℕ) (bytes store : List ℕ) where
+module _ (p : Part) (windows : List Window) (number : ℕ) (s : Stream) (bytes store : List ℕ) where
   -- the contract, of what was read
-  abbrev Answers : Received → List ℕ → SegmentRead → Type 0
-  Answers r after s = (r ≡ receivedSegment d number slot bytes s) × (after ≡ receivedSegmentBytes d number slot bytes store s)
+  abbrev Answers : PartsReceived → List ℕ → SegmentRead → Type 0
+  Answers r after x = (r ≡ partsSegment windows number s bytes x) × (after ≡ partsSegmentBytes p windows number s bytes store x)
 
-  answers : {r : Received} {after : List ℕ} {s t : SegmentRead} → s ≡ t → Answers r after s → Answers r after t
+  answers : {r : PartsReceived} {after : List ℕ} {x y : SegmentRead} → x ≡ y → Answers r after x → Answers r after y
   answers {r} {after} e h = subst (λ (x : SegmentRead). Answers r after x) e h
 
   -- a verdict that is applied, with the payload that was lent
   judged :
-      (total start len : ℕ) {r : Received} {after : List ℕ} {v w : Verdict} →
+      (total start len : ℕ) {r : PartsReceived} {after : List ℕ} {v w : Verdict} →
       v ≡ w →
-      r ≡ applied d slot total v →
-      after ≡ appliedBytes (d .part .start) v (take (start + len - start) (drop start bytes)) store →
-      (r ≡ applied d slot total w) × (after ≡ appliedBytes (d .part .start) w (part bytes start len) store)
+      r ≡ partsApplied s total v →
+      after ≡ appliedBytes (p .start) v (take (start + len - start) (drop start bytes)) store →
+      (r ≡ partsApplied s total w) × (after ≡ appliedBytes (p .start) w (part bytes start len) store)
   judged total start len e f g = (
-    f ∙ ap (applied d slot total) e,
-    g ∙ ap₂ (λ (v : Verdict) (p : List ℕ). appliedBytes (d .part .start) v p store) e (lent bytes start len),
+    f ∙ ap (partsApplied s total) e,
+    g ∙ ap₂ (λ (v : Verdict) (payload : List ℕ). appliedBytes (p .start) v payload store) e (lent bytes start len),
   )
-
-mul-s : tie.Need-mul-s
-mul-s c = search needs
-
-element-copy-out-s : tie.Need-element-copy-out-s
-element-copy-out-s c = search needs
 
 read-segment-requires : tie.Need-read-segment-requires
 read-segment-requires c κs = search needs
@@ -135,15 +130,15 @@ apply-requires-3 c κs = search needs
 
 returns : tie.Need-returns
 returns c =
-    let a = c .before .before .before .before .before .before .before .before .before .args in
-    answers (a .t1) (a .number) (a .slot) (a .bytes .now) (a .store .now)
+    let a = c .before .before .before .before .before .before .args in
+    answers (a .part) (a .windows) (a .number) (a .s) (a .bytes .now) (a .store .now)
     (sym (c .before .n .given .1) ∙ c .before .before .before .read-segment .ensures)
     (refl, refl)
 
 returns-2 : tie.Need-returns-2
 returns-2 c =
-    let a = c .before .before .before .before .before .before .before .before .before .before .args in
-    answers (a .t1) (a .number) (a .slot) (a .bytes .now) (a .store .now)
+    let a = c .before .before .before .before .before .before .before .args in
+    answers (a .part) (a .windows) (a .number) (a .s) (a .bytes .now) (a .store .now)
     (sym (c .before .before .refusal .given .1) ∙ c .before .before .before .before .read-segment .ensures)
     (c .apply .ensures, refl)
 
@@ -153,11 +148,11 @@ same-length c = search needs
 returns-3 : tie.Need-returns-3
 returns-3 c =
     let t = c .before .before .before .before .before .before .before .before in
-    let a = t .before .before .before .before .before .before .before .before .args in
+    let a = t .before .before .before .before .before .args in
     let g = t .total .given in
-    answers (a .t1) (a .number) (a .slot) (a .bytes .now) (a .store .now)
+    answers (a .part) (a .windows) (a .number) (a .s) (a .bytes .now) (a .store .now)
     (sym (g .1) ∙ t .before .before .read-segment .ensures)
-    (judged (a .t1) (a .number) (a .slot) (a .bytes .now) (a .store .now) (g .0 .0) (g .0 .1 .1 .0) (g .0 .1 .1 .1 .0)
+    (judged (a .part) (a .windows) (a .number) (a .s) (a .bytes .now) (a .store .now) (g .0 .0) (g .0 .1 .1 .0) (g .0 .1 .1 .1 .0)
     (c .before .before .before .before .before .before .judge-tagged-segment .ensures)
     (c .apply2 .ensures)
     (c .before .before .before .place-by .ensures))
@@ -168,22 +163,20 @@ same-length-2 c = search needs
 returns-4 : tie.Need-returns-4
 returns-4 c =
     let t = c .before .before .before .before .before .before .before .before .before in
-    let a = t .before .before .before .before .before .before .before .before .args in
+    let a = t .before .before .before .before .before .args in
     let g = t .total2 .given in
-    answers (a .t1) (a .number) (a .slot) (a .bytes .now) (a .store .now)
+    answers (a .part) (a .windows) (a .number) (a .s) (a .bytes .now) (a .store .now)
     (sym (g .1) ∙ t .before .before .read-segment .ensures)
-    (judged (a .t1) (a .number) (a .slot) (a .bytes .now) (a .store .now) (g .0 .0) (g .0 .1 .1 .0) (g .0 .1 .1 .1 .0)
+    (judged (a .part) (a .windows) (a .number) (a .s) (a .bytes .now) (a .store .now) (g .0 .0) (g .0 .1 .1 .0) (g .0 .1 .1 .1 .0)
     (c .before .before .before .before .before .before .judge-untagged-segment .ensures
-    ∙ ap (untagged (a .t1 .windows) (a .number) (streamAt (a .t1) (a .slot)) (g .0 .1 .0)) (lent (a .bytes .now) (g .0 .1 .1 .0) (g .0 .1 .1 .1 .0)))
+    ∙ ap (untagged (a .windows) (a .number) (a .s) (g .0 .1 .0)) (lent (a .bytes .now) (g .0 .1 .1 .0) (g .0 .1 .1 .1 .0)))
     (c .apply3 .ensures)
     (c .before .before .before .place-by2 .ensures))
 
-pub receive-open-spec : {M : Type 1} → statement M
-receive-open-spec =
+pub receive-segment-spec : {M : Type 1} → statement M
+receive-segment-spec =
     tie.close
     (tie.spec
-    mul-s
-    element-copy-out-s
     read-segment-requires
     enum-known-n
     enum-known-refusal

@@ -1,0 +1,99 @@
+-- What receive does over the parts of a domain that it needs: its part of the store, its windows and one stream. A domain's
+-- receive is this, lifted: the stream of the slot is exchanged, and the window that a Send invalidated is dead.
+use Prim.Native.Nat.{ℕ}
+use mathlib.Core.List.{List}
+use lib.ListN.{length, set}
+use Rattle.wire.specs.Wire.{part}
+use Rattle.ddp.specs.Window.{dropped}
+use Rattle.ddp.specs.Tagged.{taggedOf}
+use Rattle.ddp.specs.Untagged.{untaggedOf}
+use Rattle.ddp.specs.Segment.{segmentRead}
+use Rattle.ddp.specs.declared.part.Part.{Part}
+use Rattle.ddp.specs.declared.segment.SegmentRead.{SegmentRead}
+use Rattle.ddp.specs.declared.segment.SegmentRead.the-variants.{Wait as SegmentWait, Refused as SegmentRefused, Tagged as TaggedSegment, Untagged as UntaggedSegment}
+use Rattle.ddp.specs.declared.window.Window.{Window}
+use Rattle.rdmap.specs.Message.{writeVerdict, queuesOf, untaggedVerdict}
+use Rattle.rdmap.specs.Stream.{readiness, endedBy, terminatedBy, sendingOn, sentOn, queuedOn}
+use Rattle.rdmap.specs.declared.message.Invalidate.{Invalidate}
+use Rattle.rdmap.specs.declared.message.Invalidate.the-variants.{NoStag, Stag}
+use Rattle.rdmap.specs.declared.message.Verdict.{Verdict}
+use Rattle.rdmap.specs.declared.message.Verdict.the-variants.{Refused as VerdictRefused, Nothing, Write, SendMore, SendLast, Read, Terminate}
+use Rattle.rdmap.specs.declared.stream.Readiness.{Readiness}
+use Rattle.rdmap.specs.declared.stream.Readiness.the-variants.{Ready, NotReady}
+use Rattle.rdmap.specs.declared.stream.Stream.{Stream}
+use Rattle.domain.specs.Domain.{sentEvent, appliedBytes}
+use Rattle.domain.specs.declared.Domain.{Domain}
+use Rattle.domain.specs.declared.Event.{Event}
+use Rattle.domain.specs.declared.Event.the-variants.{NoEvent, Terminated}
+use Rattle.domain.specs.declared.Answer.the-variants.{Wait, Taken, Ended, Refused}
+use Rattle.domain.specs.declared.Received.{Received}
+use Rattle.domain.specs.declared.parts.PartsReceived.{PartsReceived}
+
+abbrev pub partsTaken : Stream → ℕ → Event → Invalidate → PartsReceived
+partsTaken s total event inv = record { answer = Taken total event; stream = s; invalidate = inv }
+
+-- what a verdict makes of the stream, and the answer
+unfoldable pub partsApplied : Stream → ℕ → Verdict → PartsReceived
+partsApplied s total (VerdictRefused r) = record { answer = Ended r; stream = endedBy s r; invalidate = NoStag }
+partsApplied s total Nothing = partsTaken s total NoEvent NoStag
+partsApplied s total (Write at) = partsTaken s total NoEvent NoStag
+partsApplied s total (SendMore at opcode taken) = partsTaken (sendingOn s opcode taken) total NoEvent NoStag
+partsApplied s total (SendLast at opcode start len inv) = partsTaken (sentOn s) total (sentEvent start len opcode inv) inv
+partsApplied s total (Read r) = partsTaken (queuedOn s r) total NoEvent NoStag
+partsApplied s total (Terminate layer etype code) = partsTaken (terminatedBy s) total (Terminated layer etype code) NoStag
+
+-- what the segment is judged to be
+abbrev pub partsJudged : List Window → ℕ → Stream → List ℕ → SegmentRead → Verdict
+partsJudged ws number s input (SegmentWait n) = Nothing
+partsJudged ws number s input (SegmentRefused r) = VerdictRefused r
+partsJudged ws number s input (TaggedSegment total h start len) =
+    writeVerdict ws (h .control) (taggedOf ws number (h .stag) (h .to) len)
+partsJudged ws number s input (UntaggedSegment total h start len) =
+    untaggedVerdict ws number s h (part input start len) (untaggedOf (queuesOf s) (h .qn) (h .msn) (h .mo) (length (part input start len)))
+
+-- what is read of the first FPDU
+abbrev pub partsSegment : List Window → ℕ → Stream → List ℕ → SegmentRead → PartsReceived
+partsSegment ws number s input (SegmentWait n) = record { answer = Wait n; stream = s; invalidate = NoStag }
+partsSegment ws number s input (SegmentRefused r) = partsApplied s 0 (VerdictRefused r)
+partsSegment ws number s input (TaggedSegment total h start len) =
+    partsApplied s total (partsJudged ws number s input (TaggedSegment total h start len))
+partsSegment ws number s input (UntaggedSegment total h start len) =
+    partsApplied s total (partsJudged ws number s input (UntaggedSegment total h start len))
+
+abbrev pub partsSegmentBytes : Part → List Window → ℕ → Stream → List ℕ → List ℕ → SegmentRead → List ℕ
+partsSegmentBytes p ws number s input bytes (SegmentWait n) = bytes
+partsSegmentBytes p ws number s input bytes (SegmentRefused r) = bytes
+partsSegmentBytes p ws number s input bytes (TaggedSegment total h start len) =
+    appliedBytes (p .start) (partsJudged ws number s input (TaggedSegment total h start len)) (part input start len) bytes
+partsSegmentBytes p ws number s input bytes (UntaggedSegment total h start len) =
+    appliedBytes (p .start) (partsJudged ws number s input (UntaggedSegment total h start len)) (part input start len) bytes
+
+-- the local refusals 3 and 5 first
+abbrev pub partsWhen : List Window → ℕ → Stream → List ℕ → Readiness → PartsReceived
+partsWhen ws number s input Ready = partsSegment ws number s input (segmentRead (s .crc) input)
+partsWhen ws number s input (NotReady k) = record { answer = Refused k; stream = s; invalidate = NoStag }
+
+abbrev pub partsBytesWhen : Part → List Window → ℕ → Stream → List ℕ → List ℕ → Readiness → List ℕ
+partsBytesWhen p ws number s input bytes Ready = partsSegmentBytes p ws number s input bytes (segmentRead (s .crc) input)
+partsBytesWhen p ws number s input bytes (NotReady k) = bytes
+
+-- receive on a stream of domain number: the answer, the stream and what it invalidated
+unfoldable pub partsReceived : List Window → ℕ → Stream → List ℕ → PartsReceived
+partsReceived ws number s input = partsWhen ws number s input (readiness (s .phase))
+
+-- and the domain's bytes of the store
+unfoldable pub partsReceivedBytes : Part → List Window → ℕ → Stream → List ℕ → List ℕ → List ℕ
+partsReceivedBytes p ws number s input bytes = partsBytesWhen p ws number s input bytes (readiness (s .phase))
+
+-- ---- what it makes of the domain
+
+-- "whose window is then dead": it is dropped
+abbrev pub killed : Invalidate → List Window → List Window
+killed NoStag ws = ws
+killed (Stag slot stag) ws = dropped ws slot .windows
+
+abbrev pub lifted : Domain → ℕ → PartsReceived → Received
+lifted d slot r = record {
+  answer = r .answer;
+  domain = record { part = d .part; windows = killed (r .invalidate) (d .windows); streams = set (d .streams) slot (r .stream) };
+}

@@ -1,0 +1,202 @@
+// Receive over what it needs of a domain: its part of the store, its windows and the one stream, by
+// value. It answers that stream after it, and the window that a Send invalidated, so that a caller
+// who holds a domain in place copies neither its other streams nor the whole of it.
+//
+// Read `PartsReceived` first, then `receive_parts`. The definitions are in specs/Parts.antt; that a
+// domain's receive is this one, lifted, is the law of proofs/Lift.antt.
+ghost use mathlib.Core.Path.{_≡_};
+ghost use Rattle.domain.specs.Domain.{sentEvent, placedFrom, appliedBytes};
+ghost use Rattle.domain.specs.Parts.{
+  partsTaken,
+  partsApplied,
+  partsSegment,
+  partsSegmentBytes,
+  partsReceived,
+  partsReceivedBytes,
+};
+ghost use Rattle.ddp.specs.Segment.{segmentRead};
+use crate::Answer;
+use crate::Event;
+use ddp::part::Part;
+use ddp::segment::SegmentRead;
+use ddp::segment::read_segment;
+use ddp::window::Window;
+use rdmap::message::Invalidate;
+use rdmap::message::Verdict;
+use rdmap::message::judge_tagged_segment;
+use rdmap::message::judge_untagged_segment;
+use rdmap::stream::Readiness;
+use rdmap::stream::Stream;
+
+// What receive answers, the stream after it, and the window that is then dead.
+pub struct PartsReceived {
+    pub answer: Answer,
+    pub stream: Stream,
+    pub invalidate: Invalidate,
+}
+
+// The event of a Send that is complete.
+fn sent_event(start: u32, len: u32, opcode: u8, which: Invalidate) -> Event
+    ensures { λ r. ⌜ r ≡ sentEvent start len opcode which ⌝ }
+{
+    match which {
+        Invalidate::NoStag => Event::Sent { start, len, opcode },
+        Invalidate::Stag { slot: _, stag } => Event::SentInvalidating {
+            start,
+            len,
+            opcode,
+            stag,
+        },
+    }
+}
+
+// An FPDU is taken, with an event.
+fn taken(s: Stream, total: usize, event: Event, which: Invalidate) -> PartsReceived
+    ensures { λ r. ⌜ r ≡ partsTaken s total event which ⌝ }
+{
+    PartsReceived {
+        answer: Answer::Taken { total, event },
+        stream: s,
+        invalidate: which,
+    }
+}
+
+// What a verdict makes of the stream, and the answer.
+fn apply(s: Stream, total: usize, verdict: Verdict) -> PartsReceived
+    ensures { λ r. ⌜ r ≡ partsApplied s total verdict ⌝ }
+{
+    let none = Invalidate::NoStag;
+    match verdict {
+        Verdict::Refused(refusal) => PartsReceived {
+            answer: Answer::Ended(refusal),
+            stream: s.end(refusal),
+            invalidate: none,
+        },
+        Verdict::Nothing => taken(s, total, Event::NoEvent, none),
+        Verdict::Write(_) => taken(s, total, Event::NoEvent, none),
+        Verdict::SendMore {
+            at: _,
+            opcode,
+            taken: n,
+        } => taken(s.sending(opcode, n), total, Event::NoEvent, none),
+        Verdict::SendLast {
+            at: _,
+            opcode,
+            start,
+            len,
+            invalidate: which,
+        } => {
+            let event = sent_event(start, len, opcode, which);
+            taken(s.sent(), total, event, which)
+        }
+        Verdict::Read(read) => taken(s.queued(read), total, Event::NoEvent, none),
+        Verdict::Terminate { layer, etype, code } => {
+            let event = Event::Terminated { layer, etype, code };
+            taken(s.terminated(), total, event, none)
+        }
+    }
+}
+
+// Places a payload at a place of the store in the domain's bytes, which start at start.
+fn place_from(bytes: &mut [u8], start: u32, at: u64, payload: &[u8])
+    ensures { λ _. ⌜ now (bytes .exit) ≡ placedFrom start at (now (payload .entry)) (now (bytes .entry)) ⌝ }
+{
+    let from = start as u64;
+    if from <= at {
+        ddp::place::place(bytes, at - from, payload);
+    }
+}
+
+// What a verdict makes of the domain's bytes.
+fn place_by(bytes: &mut [u8], start: u32, verdict: Verdict, payload: &[u8])
+    ensures { λ _. ⌜ now (bytes .exit) ≡ appliedBytes start verdict (now (payload .entry)) (now (bytes .entry)) ⌝ }
+{
+    match verdict {
+        Verdict::Refused(_) => {}
+        Verdict::Nothing => {}
+        Verdict::Write(at) => place_from(bytes, start, at, payload),
+        Verdict::SendMore {
+            at,
+            opcode: _,
+            taken: _,
+        } => place_from(bytes, start, at, payload),
+        Verdict::SendLast {
+            at,
+            opcode: _,
+            start: _,
+            len: _,
+            invalidate: _,
+        } => place_from(bytes, start, at, payload),
+        Verdict::Read(_) => {}
+        Verdict::Terminate {
+            layer: _,
+            etype: _,
+            code: _,
+        } => {}
+    }
+}
+
+// Takes the first FPDU of bytes for an open stream of the domain of this number, whose bytes are lent.
+fn receive_segment(
+    part: Part,
+    windows: [Window; 16],
+    s: Stream,
+    number: u64,
+    store: &mut [u8],
+    bytes: &[u8],
+) -> PartsReceived
+    ensures { λ r. ⌜ (r ≡ partsSegment windows number s (now (bytes .entry)) (segmentRead (s .crc) (now (bytes .entry)))) × (now (store .exit) ≡ partsSegmentBytes part windows number s (now (bytes .entry)) (now (store .entry)) (segmentRead (s .crc) (now (bytes .entry)))) ⌝ }
+{
+    match read_segment(s.crc, bytes) {
+        SegmentRead::Wait(n) => PartsReceived {
+            answer: Answer::Wait(n),
+            stream: s,
+            invalidate: Invalidate::NoStag,
+        },
+        SegmentRead::Refused(refusal) => apply(s, 0, Verdict::Refused(refusal)),
+        SegmentRead::Tagged {
+            total,
+            header,
+            start,
+            len,
+        } => {
+            let end = start + len;
+            let verdict = judge_tagged_segment(windows, number, header, len as u64);
+            place_by(store, part.start, verdict, &bytes[start..end]);
+            apply(s, total, verdict)
+        }
+        SegmentRead::Untagged {
+            total,
+            header,
+            start,
+            len,
+        } => {
+            let end = start + len;
+            let verdict = judge_untagged_segment(windows, number, s, header, &bytes[start..end]);
+            place_by(store, part.start, verdict, &bytes[start..end]);
+            apply(s, total, verdict)
+        }
+    }
+}
+
+// Takes the first FPDU of bytes for a stream of the domain of this number, of which these are the
+// part, the windows and the stream; the domain's bytes are lent.
+pub fn receive_parts(
+    part: Part,
+    windows: [Window; 16],
+    s: Stream,
+    number: u64,
+    store: &mut [u8],
+    bytes: &[u8],
+) -> PartsReceived
+    ensures { λ r. ⌜ (r ≡ partsReceived windows number s (now (bytes .entry))) × (now (store .exit) ≡ partsReceivedBytes part windows number s (now (bytes .entry)) (now (store .entry))) ⌝ }
+{
+    match s.ready() {
+        Readiness::Ready => receive_segment(part, windows, s, number, store, bytes),
+        Readiness::NotReady(refusal) => PartsReceived {
+            answer: Answer::Refused(refusal),
+            stream: s,
+            invalidate: Invalidate::NoStag,
+        },
+    }
+}
