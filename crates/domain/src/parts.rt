@@ -5,7 +5,7 @@
 // Read `PartsReceived` first, then `receive_parts`. The definitions are in specs/Parts.antt; that a
 // domain's receive is this one, lifted, is the law of proofs/Lift.antt.
 ghost use mathlib.Core.Path.{_≡_};
-ghost use Rattle.domain.specs.Domain.{sentEvent, placedFrom, appliedBytes};
+ghost use Rattle.domain.specs.Domain.{sentEvent};
 ghost use Rattle.domain.specs.Parts.{
   partsTaken,
   partsApplied,
@@ -17,6 +17,7 @@ ghost use Rattle.domain.specs.Parts.{
 ghost use Rattle.ddp.specs.Segment.{segmentRead};
 use crate::Answer;
 use crate::Event;
+use crate::placing::place_by;
 use ddp::part::Part;
 use ddp::segment::SegmentRead;
 use ddp::segment::read_segment;
@@ -94,45 +95,6 @@ fn apply(s: Stream, total: usize, verdict: Verdict) -> PartsReceived
             let event = Event::Terminated { layer, etype, code };
             taken(s.terminated(), total, event, none)
         }
-    }
-}
-
-// Places a payload at a place of the store in the domain's bytes, which start at start.
-fn place_from(bytes: &mut [u8], start: u32, at: u64, payload: &[u8])
-    ensures { λ _. ⌜ now (bytes .exit) ≡ placedFrom start at (now (payload .entry)) (now (bytes .entry)) ⌝ }
-{
-    let from = start as u64;
-    if from <= at {
-        ddp::place::place(bytes, at - from, payload);
-    }
-}
-
-// What a verdict makes of the domain's bytes.
-fn place_by(bytes: &mut [u8], start: u32, verdict: Verdict, payload: &[u8])
-    ensures { λ _. ⌜ now (bytes .exit) ≡ appliedBytes start verdict (now (payload .entry)) (now (bytes .entry)) ⌝ }
-{
-    match verdict {
-        Verdict::Refused(_) => {}
-        Verdict::Nothing => {}
-        Verdict::Write(at) => place_from(bytes, start, at, payload),
-        Verdict::SendMore {
-            at,
-            opcode: _,
-            taken: _,
-        } => place_from(bytes, start, at, payload),
-        Verdict::SendLast {
-            at,
-            opcode: _,
-            start: _,
-            len: _,
-            invalidate: _,
-        } => place_from(bytes, start, at, payload),
-        Verdict::Read(_) => {}
-        Verdict::Terminate {
-            layer: _,
-            etype: _,
-            code: _,
-        } => {}
     }
 }
 

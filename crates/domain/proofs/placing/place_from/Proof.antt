@@ -2,8 +2,8 @@
 use borrow.Author.Tests.{le-leb, lt-leb}
 use Rattle.domain.specs.Domain.{placedFrom}
 use borrow.Author.Needs.{needs}
-use Rattle.domain.proofs.parts.place_from.Statement.{statement}
-use Rattle.domain.proofs.parts.place_from.Tie as tie
+use Rattle.domain.proofs.placing.place_from.Statement.{statement}
+use Rattle.domain.proofs.placing.place_from.Tie as tie
 
 place-requires : tie.Need-place-requires
 place-requires c κs = search needs

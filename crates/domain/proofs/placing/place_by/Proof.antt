@@ -5,8 +5,8 @@ use mathlib.Core.Path.{_≡_, sym, ap, _∙_}
 use Rattle.domain.specs.Domain.{appliedBytes}
 use Rattle.rdmap.specs.declared.message.Verdict.{Verdict}
 use borrow.Author.Needs.{needs}
-use Rattle.domain.proofs.parts.place_by.Statement.{statement}
-use Rattle.domain.proofs.parts.place_by.Tie as tie
+use Rattle.domain.proofs.placing.place_by.Statement.{statement}
+use Rattle.domain.proofs.placing.place_by.Tie as tie
 
 -- the bytes of a verdict are those of the same verdict
 same : (start : ℕ) (payload bytes : List ℕ) {v w : Verdict} → v ≡ w → appliedBytes start w payload bytes ≡ appliedBytes start v payload bytes
