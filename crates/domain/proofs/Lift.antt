@@ -18,7 +18,7 @@ use Rattle.rdmap.specs.declared.stream.Readiness.{Readiness}
 use Rattle.rdmap.specs.declared.stream.Readiness.the-variants.{Ready, NotReady}
 use Rattle.rdmap.specs.declared.stream.Stream.{Stream}
 use Rattle.domain.specs.Domain.{noStream, streamAt, withStream, invalidating, applied, receivedSegment, receivedSegmentBytes, receivedWhen, receivedBytesWhen, domainReceived, domainReceivedBytes}
-use Rattle.domain.specs.Parts.{partsApplied, partsJudged, partsSegment, partsSegmentBytes, partsWhen, partsBytesWhen, partsReceived, partsReceivedBytes, killed, lifted}
+use Rattle.domain.specs.Parts.{partsApplied, partsVerdict, partsJudged, partsPlaced, partsAnswered, partsWhen, partsBytesWhen, partsReceived, partsReceivedBytes, killed, lifted}
 use Rattle.domain.specs.declared.Answer.{Answer}
 use Rattle.domain.specs.declared.Domain.{Domain}
 use Rattle.domain.specs.declared.Received.{Received}
@@ -46,13 +46,13 @@ module _ (d : Domain) (number slot : ℕ) (input : List ℕ) where
   verdict-lifted total (Read r) = refl
   verdict-lifted total (Terminate layer etype code) = refl
 
-  segment-lifted : (s : SegmentRead) → receivedSegment d number slot input s ≡ lifted d slot (partsSegment (d .windows) number (streamAt d slot) input s)
+  segment-lifted : (s : SegmentRead) → receivedSegment d number slot input s ≡ lifted d slot (partsAnswered (streamAt d slot) (partsJudged (d .windows) number (streamAt d slot) input s))
   segment-lifted (SegmentWait n) = same _
   segment-lifted (SegmentRefused r) = verdict-lifted 0 (VerdictRefused r)
   segment-lifted (TaggedSegment total h start len) =
-      verdict-lifted total (partsJudged (d .windows) number (streamAt d slot) input (TaggedSegment total h start len))
+      verdict-lifted total (partsVerdict (d .windows) number (streamAt d slot) input (TaggedSegment total h start len))
   segment-lifted (UntaggedSegment total h start len) =
-      verdict-lifted total (partsJudged (d .windows) number (streamAt d slot) input (UntaggedSegment total h start len))
+      verdict-lifted total (partsVerdict (d .windows) number (streamAt d slot) input (UntaggedSegment total h start len))
 
   when-lifted : (r : Readiness) → receivedWhen d number slot input r ≡ lifted d slot (partsWhen (d .windows) number (streamAt d slot) input r)
   when-lifted Ready = segment-lifted (segmentRead (streamAt d slot .crc) input)
@@ -64,7 +64,7 @@ module _ (d : Domain) (number slot : ℕ) (input : List ℕ) where
   parts-lifted h = simp (le-leb _ _ h) (when-lifted (readiness (streamAt d slot .phase)))
 
   module _ (bytes : List ℕ) where
-    segment-bytes : (s : SegmentRead) → receivedSegmentBytes d number slot input bytes s ≡ partsSegmentBytes (d .part) (d .windows) number (streamAt d slot) input bytes s
+    segment-bytes : (s : SegmentRead) → receivedSegmentBytes d number slot input bytes s ≡ partsPlaced (d .part) (d .windows) number (streamAt d slot) input bytes s
     segment-bytes (SegmentWait n) = refl
     segment-bytes (SegmentRefused r) = refl
     segment-bytes (TaggedSegment total h start len) = refl

@@ -25,8 +25,11 @@ use Rattle.domain.specs.Domain.{sentEvent, appliedBytes}
 use Rattle.domain.specs.declared.Domain.{Domain}
 use Rattle.domain.specs.declared.Event.{Event}
 use Rattle.domain.specs.declared.Event.the-variants.{NoEvent, Terminated}
+use Rattle.domain.specs.declared.Answer.{Answer}
 use Rattle.domain.specs.declared.Answer.the-variants.{Wait, Taken, Ended, Refused}
 use Rattle.domain.specs.declared.Received.{Received}
+use Rattle.domain.specs.declared.parts.Judged.{Judged}
+use Rattle.domain.specs.declared.parts.Judged.the-variants.{Wait as JudgedWait, Fpdu}
 use Rattle.domain.specs.declared.parts.PartsReceived.{PartsReceived}
 
 abbrev pub partsTaken : Stream → ℕ → Event → Invalidate → PartsReceived
@@ -43,38 +46,46 @@ partsApplied s total (Read r) = partsTaken (queuedOn s r) total NoEvent NoStag
 partsApplied s total (Terminate layer etype code) = partsTaken (terminatedBy s) total (Terminated layer etype code) NoStag
 
 -- what the segment is judged to be
-abbrev pub partsJudged : List Window → ℕ → Stream → List ℕ → SegmentRead → Verdict
-partsJudged ws number s input (SegmentWait n) = Nothing
-partsJudged ws number s input (SegmentRefused r) = VerdictRefused r
-partsJudged ws number s input (TaggedSegment total h start len) =
+abbrev pub partsVerdict : List Window → ℕ → Stream → List ℕ → SegmentRead → Verdict
+partsVerdict ws number s input (SegmentWait n) = Nothing
+partsVerdict ws number s input (SegmentRefused r) = VerdictRefused r
+partsVerdict ws number s input (TaggedSegment total h start len) =
     writeVerdict ws (h .control) (taggedOf ws number (h .stag) (h .to) len)
-partsJudged ws number s input (UntaggedSegment total h start len) =
+partsVerdict ws number s input (UntaggedSegment total h start len) =
     untaggedVerdict ws number s h (part input start len) (untaggedOf (queuesOf s) (h .qn) (h .msn) (h .mo) (length (part input start len)))
 
--- what is read of the first FPDU
-abbrev pub partsSegment : List Window → ℕ → Stream → List ℕ → SegmentRead → PartsReceived
-partsSegment ws number s input (SegmentWait n) = record { answer = Wait n; stream = s; invalidate = NoStag }
-partsSegment ws number s input (SegmentRefused r) = partsApplied s 0 (VerdictRefused r)
-partsSegment ws number s input (TaggedSegment total h start len) =
-    partsApplied s total (partsJudged ws number s input (TaggedSegment total h start len))
-partsSegment ws number s input (UntaggedSegment total h start len) =
-    partsApplied s total (partsJudged ws number s input (UntaggedSegment total h start len))
+-- and the FPDU that it came in, with its total
+abbrev pub partsJudged : List Window → ℕ → Stream → List ℕ → SegmentRead → Judged
+partsJudged ws number s input (SegmentWait n) = JudgedWait n
+partsJudged ws number s input (SegmentRefused r) = Fpdu 0 (VerdictRefused r)
+partsJudged ws number s input (TaggedSegment total h start len) =
+    Fpdu total (partsVerdict ws number s input (TaggedSegment total h start len))
+partsJudged ws number s input (UntaggedSegment total h start len) =
+    Fpdu total (partsVerdict ws number s input (UntaggedSegment total h start len))
 
-abbrev pub partsSegmentBytes : Part → List Window → ℕ → Stream → List ℕ → List ℕ → SegmentRead → List ℕ
-partsSegmentBytes p ws number s input bytes (SegmentWait n) = bytes
-partsSegmentBytes p ws number s input bytes (SegmentRefused r) = bytes
-partsSegmentBytes p ws number s input bytes (TaggedSegment total h start len) =
-    appliedBytes (p .start) (partsJudged ws number s input (TaggedSegment total h start len)) (part input start len) bytes
-partsSegmentBytes p ws number s input bytes (UntaggedSegment total h start len) =
-    appliedBytes (p .start) (partsJudged ws number s input (UntaggedSegment total h start len)) (part input start len) bytes
+-- the domain's bytes, with the payload that it carried in its place
+abbrev pub partsPlaced : Part → List Window → ℕ → Stream → List ℕ → List ℕ → SegmentRead → List ℕ
+partsPlaced p ws number s input bytes (SegmentWait n) = bytes
+partsPlaced p ws number s input bytes (SegmentRefused r) = bytes
+partsPlaced p ws number s input bytes (TaggedSegment total h start len) =
+    appliedBytes (p .start) (partsVerdict ws number s input (TaggedSegment total h start len)) (part input start len) bytes
+partsPlaced p ws number s input bytes (UntaggedSegment total h start len) =
+    appliedBytes (p .start) (partsVerdict ws number s input (UntaggedSegment total h start len)) (part input start len) bytes
+
+abbrev pub partsUnchanged : Stream → Answer → PartsReceived
+partsUnchanged s a = record { answer = a; stream = s; invalidate = NoStag }
+
+abbrev pub partsAnswered : Stream → Judged → PartsReceived
+partsAnswered s (JudgedWait n) = partsUnchanged s (Wait n)
+partsAnswered s (Fpdu total v) = partsApplied s total v
 
 -- the local refusals 3 and 5 first
 abbrev pub partsWhen : List Window → ℕ → Stream → List ℕ → Readiness → PartsReceived
-partsWhen ws number s input Ready = partsSegment ws number s input (segmentRead (s .crc) input)
-partsWhen ws number s input (NotReady k) = record { answer = Refused k; stream = s; invalidate = NoStag }
+partsWhen ws number s input Ready = partsAnswered s (partsJudged ws number s input (segmentRead (s .crc) input))
+partsWhen ws number s input (NotReady k) = partsUnchanged s (Refused k)
 
 abbrev pub partsBytesWhen : Part → List Window → ℕ → Stream → List ℕ → List ℕ → Readiness → List ℕ
-partsBytesWhen p ws number s input bytes Ready = partsSegmentBytes p ws number s input bytes (segmentRead (s .crc) input)
+partsBytesWhen p ws number s input bytes Ready = partsPlaced p ws number s input bytes (segmentRead (s .crc) input)
 partsBytesWhen p ws number s input bytes (NotReady k) = bytes
 
 -- receive on a stream of domain number: the answer, the stream and what it invalidated

@@ -9,8 +9,9 @@ ghost use Rattle.domain.specs.Domain.{sentEvent};
 ghost use Rattle.domain.specs.Parts.{
   partsTaken,
   partsApplied,
-  partsSegment,
-  partsSegmentBytes,
+  partsJudged,
+  partsPlaced,
+  partsUnchanged,
   partsReceived,
   partsReceivedBytes,
 };
@@ -34,6 +35,12 @@ pub struct PartsReceived {
     pub answer: Answer,
     pub stream: Stream,
     pub invalidate: Invalidate,
+}
+
+// What the first FPDU is judged to be: how many bytes to wait for, or its total and the verdict.
+pub enum Judged {
+    Wait(usize),
+    Fpdu { total: usize, verdict: Verdict },
 }
 
 // The event of a Send that is complete.
@@ -98,24 +105,24 @@ fn apply(s: Stream, total: usize, verdict: Verdict) -> PartsReceived
     }
 }
 
-// Takes the first FPDU of bytes for an open stream of the domain of this number, whose bytes are lent.
-fn receive_segment(
+// Judges the first FPDU of bytes for an open stream of the domain of this number, and places its
+// payload in the domain's bytes, which are lent.
+fn judge_first(
     part: Part,
     windows: [Window; 16],
     s: Stream,
     number: u64,
     store: &mut [u8],
     bytes: &[u8],
-) -> PartsReceived
-    ensures { λ r. ⌜ (r ≡ partsSegment windows number s (now (bytes .entry)) (segmentRead (s .crc) (now (bytes .entry)))) × (now (store .exit) ≡ partsSegmentBytes part windows number s (now (bytes .entry)) (now (store .entry)) (segmentRead (s .crc) (now (bytes .entry)))) ⌝ }
+) -> Judged
+    ensures { λ r. ⌜ (r ≡ partsJudged windows number s (now (bytes .entry)) (segmentRead (s .crc) (now (bytes .entry)))) × (now (store .exit) ≡ partsPlaced part windows number s (now (bytes .entry)) (now (store .entry)) (segmentRead (s .crc) (now (bytes .entry)))) ⌝ }
 {
     match read_segment(s.crc, bytes) {
-        SegmentRead::Wait(n) => PartsReceived {
-            answer: Answer::Wait(n),
-            stream: s,
-            invalidate: Invalidate::NoStag,
+        SegmentRead::Wait(n) => Judged::Wait(n),
+        SegmentRead::Refused(refusal) => Judged::Fpdu {
+            total: 0,
+            verdict: Verdict::Refused(refusal),
         },
-        SegmentRead::Refused(refusal) => apply(s, 0, Verdict::Refused(refusal)),
         SegmentRead::Tagged {
             total,
             header,
@@ -125,7 +132,7 @@ fn receive_segment(
             let end = start + len;
             let verdict = judge_tagged_segment(windows, number, header, len as u64);
             place_by(store, part.start, verdict, &bytes[start..end]);
-            apply(s, total, verdict)
+            Judged::Fpdu { total, verdict }
         }
         SegmentRead::Untagged {
             total,
@@ -136,8 +143,19 @@ fn receive_segment(
             let end = start + len;
             let verdict = judge_untagged_segment(windows, number, s, header, &bytes[start..end]);
             place_by(store, part.start, verdict, &bytes[start..end]);
-            apply(s, total, verdict)
+            Judged::Fpdu { total, verdict }
         }
+    }
+}
+
+// The stream as it was, with an answer.
+fn unchanged(s: Stream, answer: Answer) -> PartsReceived
+    ensures { λ r. ⌜ r ≡ partsUnchanged s answer ⌝ }
+{
+    PartsReceived {
+        answer,
+        stream: s,
+        invalidate: Invalidate::NoStag,
     }
 }
 
@@ -154,11 +172,10 @@ pub fn receive_parts(
     ensures { λ r. ⌜ (r ≡ partsReceived windows number s (now (bytes .entry))) × (now (store .exit) ≡ partsReceivedBytes part windows number s (now (bytes .entry)) (now (store .entry))) ⌝ }
 {
     match s.ready() {
-        Readiness::Ready => receive_segment(part, windows, s, number, store, bytes),
-        Readiness::NotReady(refusal) => PartsReceived {
-            answer: Answer::Refused(refusal),
-            stream: s,
-            invalidate: Invalidate::NoStag,
+        Readiness::Ready => match judge_first(part, windows, s, number, store, bytes) {
+            Judged::Wait(n) => unchanged(s, Answer::Wait(n)),
+            Judged::Fpdu { total, verdict } => apply(s, total, verdict),
         },
+        Readiness::NotReady(refusal) => unchanged(s, Answer::Refused(refusal)),
     }
 }

@@ -1,5 +1,5 @@
--- `receive_segment` meets its contract: each arm has what `segmentRead` gives, whose payload lies in the bytes, and the callees
--- give the verdict and what it makes of the stream and of the bytes.
+-- `judge_first` meets its contract: each arm has what `segmentRead` gives, whose payload lies in the bytes, and the callees
+-- give the verdict and what it makes of the bytes.
 use Prim.Native.Nat.{ℕ, _+_, _-_, _≤_}
 use mathlib.Core.Path.{_≡_, refl, sym, ap, ap₂, _∙_, subst}
 use mathlib.Core.List.{List}
@@ -16,12 +16,13 @@ use Rattle.rdmap.specs.declared.stream.Stream.{Stream}
 use Rattle.rdmap.specs.Message.{queuesOf, untaggedVerdict}
 use Rattle.rdmap.specs.declared.message.Verdict.{Verdict}
 use Rattle.domain.specs.Domain.{appliedBytes}
-use Rattle.domain.specs.Parts.{partsApplied, partsSegment, partsSegmentBytes}
-use Rattle.domain.specs.declared.parts.PartsReceived.{PartsReceived}
+use Rattle.domain.specs.Parts.{partsJudged, partsPlaced}
+use Rattle.domain.specs.declared.parts.Judged.{Judged}
+use Rattle.domain.specs.declared.parts.Judged.the-variants.{Fpdu}
 use Rattle.domain.proofs.Inside.{inside}
 use borrow.Author.Needs.{needs}
-use Rattle.domain.proofs.parts.receive_segment.Statement.{statement}
-use Rattle.domain.proofs.parts.receive_segment.Tie as tie
+use Rattle.domain.proofs.parts.judge_first.Statement.{statement}
+use Rattle.domain.proofs.parts.judge_first.Tie as tie
 
 -- what is lent of the bytes is the payload
 lent : (bytes : List ℕ) (start len : ℕ) → take (start + len - start) (drop start bytes) ≡ part bytes start len
@@ -41,21 +42,20 @@ untagged windows number s h payload =
 
 module _ (p : Part) (windows : List Window) (number : ℕ) (s : Stream) (bytes store : List ℕ) where
   -- the contract, of what was read
-  abbrev Answers : PartsReceived → List ℕ → SegmentRead → Type 0
-  Answers r after x = (r ≡ partsSegment windows number s bytes x) × (after ≡ partsSegmentBytes p windows number s bytes store x)
+  abbrev Answers : Judged → List ℕ → SegmentRead → Type 0
+  Answers r after x = (r ≡ partsJudged windows number s bytes x) × (after ≡ partsPlaced p windows number s bytes store x)
 
-  answers : {r : PartsReceived} {after : List ℕ} {x y : SegmentRead} → x ≡ y → Answers r after x → Answers r after y
+  answers : {r : Judged} {after : List ℕ} {x y : SegmentRead} → x ≡ y → Answers r after x → Answers r after y
   answers {r} {after} e h = subst (λ (x : SegmentRead). Answers r after x) e h
 
-  -- a verdict that is applied, with the payload that was lent
+  -- a verdict, with the payload that was lent
   judged :
-      (total start len : ℕ) {r : PartsReceived} {after : List ℕ} {v w : Verdict} →
+      (total start len : ℕ) {after : List ℕ} {v w : Verdict} →
       v ≡ w →
-      r ≡ partsApplied s total v →
       after ≡ appliedBytes (p .start) v (take (start + len - start) (drop start bytes)) store →
-      (r ≡ partsApplied s total w) × (after ≡ appliedBytes (p .start) w (part bytes start len) store)
-  judged total start len e f g = (
-    f ∙ ap (partsApplied s total) e,
+      (Fpdu total v ≡ Fpdu total w) × (after ≡ appliedBytes (p .start) w (part bytes start len) store)
+  judged total start len e g = (
+    ap (Fpdu total) e,
     g ∙ ap₂ (λ (v : Verdict) (payload : List ℕ). appliedBytes (p .start) v payload store) e (lent bytes start len),
   )
 
@@ -67,9 +67,6 @@ enum-known-n c = search needs
 
 enum-known-refusal : tie.Need-enum-known-refusal
 enum-known-refusal c = search needs
-
-apply-requires : tie.Need-apply-requires
-apply-requires c κs = search needs
 
 enum-known-total : tie.Need-enum-known-total
 enum-known-total c = search needs
@@ -91,9 +88,6 @@ part-place-by-end c = omega (arith, tagged-ends (c .before .before .before))
 
 place-by-requires : tie.Need-place-by-requires
 place-by-requires c κs = search needs
-
-apply-requires-2 : tie.Need-apply-requires-2
-apply-requires-2 c κs = search needs
 
 enum-known-total-2 : tie.Need-enum-known-total-2
 enum-known-total-2 c = search needs
@@ -125,9 +119,6 @@ part-place-by-end-2 c = omega (arith, untagged-ends (c .before .before .before .
 place-by-requires-2 : tie.Need-place-by-requires-2
 place-by-requires-2 c κs = search needs
 
-apply-requires-3 : tie.Need-apply-requires-3
-apply-requires-3 c κs = search needs
-
 returns : tie.Need-returns
 returns c =
     let a = c .before .before .before .before .before .before .args in
@@ -137,50 +128,47 @@ returns c =
 
 returns-2 : tie.Need-returns-2
 returns-2 c =
-    let a = c .before .before .before .before .before .before .before .args in
+    let a = c .before .before .before .before .before .before .args in
     answers (a .part) (a .windows) (a .number) (a .s) (a .bytes .now) (a .store .now)
-    (sym (c .before .before .refusal .given .1) ∙ c .before .before .before .before .read-segment .ensures)
-    (c .apply .ensures, refl)
+    (sym (c .before .refusal .given .1) ∙ c .before .before .before .read-segment .ensures)
+    (refl, refl)
 
 same-length : tie.Need-same-length
 same-length c = search needs
 
 returns-3 : tie.Need-returns-3
 returns-3 c =
-    let t = c .before .before .before .before .before .before .before .before in
+    let t = c .before .before .before .before .before .before .before in
     let a = t .before .before .before .before .before .args in
     let g = t .total .given in
     answers (a .part) (a .windows) (a .number) (a .s) (a .bytes .now) (a .store .now)
     (sym (g .1) ∙ t .before .before .read-segment .ensures)
     (judged (a .part) (a .windows) (a .number) (a .s) (a .bytes .now) (a .store .now) (g .0 .0) (g .0 .1 .1 .0) (g .0 .1 .1 .1 .0)
-    (c .before .before .before .before .before .before .judge-tagged-segment .ensures)
-    (c .apply2 .ensures)
-    (c .before .before .before .place-by .ensures))
+    (c .before .before .before .before .before .judge-tagged-segment .ensures)
+    (c .before .before .place-by .ensures))
 
 same-length-2 : tie.Need-same-length-2
 same-length-2 c = search needs
 
 returns-4 : tie.Need-returns-4
 returns-4 c =
-    let t = c .before .before .before .before .before .before .before .before .before in
+    let t = c .before .before .before .before .before .before .before .before in
     let a = t .before .before .before .before .before .args in
     let g = t .total2 .given in
     answers (a .part) (a .windows) (a .number) (a .s) (a .bytes .now) (a .store .now)
     (sym (g .1) ∙ t .before .before .read-segment .ensures)
     (judged (a .part) (a .windows) (a .number) (a .s) (a .bytes .now) (a .store .now) (g .0 .0) (g .0 .1 .1 .0) (g .0 .1 .1 .1 .0)
-    (c .before .before .before .before .before .before .judge-untagged-segment .ensures
+    (c .before .before .before .before .before .judge-untagged-segment .ensures
     ∙ ap (untagged (a .windows) (a .number) (a .s) (g .0 .1 .0)) (lent (a .bytes .now) (g .0 .1 .1 .0) (g .0 .1 .1 .1 .0)))
-    (c .apply3 .ensures)
-    (c .before .before .before .place-by2 .ensures))
+    (c .before .before .place-by2 .ensures))
 
-pub receive-segment-spec : {M : Type 1} → statement M
-receive-segment-spec =
+pub judge-first-spec : {M : Type 1} → statement M
+judge-first-spec =
     tie.close
     (tie.spec
     read-segment-requires
     enum-known-n
     enum-known-refusal
-    apply-requires
     enum-known-total
     add-end
     judge-tagged-segment-requires
@@ -188,7 +176,6 @@ receive-segment-spec =
     part-place-by-start
     part-place-by-end
     place-by-requires
-    apply-requires-2
     enum-known-total-2
     add-end-2
     sub-judge-untagged-segment
@@ -199,7 +186,6 @@ receive-segment-spec =
     part-place-by-start-2
     part-place-by-end-2
     place-by-requires-2
-    apply-requires-3
     returns
     returns-2
     same-length
