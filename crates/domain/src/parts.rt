@@ -40,7 +40,7 @@ pub struct PartsReceived {
 // What the first FPDU is judged to be: how many bytes to wait for, or its total and the verdict.
 pub enum Judged {
     Wait(usize),
-    Fpdu { total: usize, verdict: Verdict },
+    Fpdu(usize, Verdict),
 }
 
 // The event of a Send that is complete.
@@ -119,10 +119,7 @@ fn judge_first(
 {
     match read_segment(s.crc, bytes) {
         SegmentRead::Wait(n) => Judged::Wait(n),
-        SegmentRead::Refused(refusal) => Judged::Fpdu {
-            total: 0,
-            verdict: Verdict::Refused(refusal),
-        },
+        SegmentRead::Refused(refusal) => Judged::Fpdu(0, Verdict::Refused(refusal)),
         SegmentRead::Tagged {
             total,
             header,
@@ -132,7 +129,7 @@ fn judge_first(
             let end = start + len;
             let verdict = judge_tagged_segment(windows, number, header, len as u64);
             place_by(store, part.start, verdict, &bytes[start..end]);
-            Judged::Fpdu { total, verdict }
+            Judged::Fpdu(total, verdict)
         }
         SegmentRead::Untagged {
             total,
@@ -143,7 +140,7 @@ fn judge_first(
             let end = start + len;
             let verdict = judge_untagged_segment(windows, number, s, header, &bytes[start..end]);
             place_by(store, part.start, verdict, &bytes[start..end]);
-            Judged::Fpdu { total, verdict }
+            Judged::Fpdu(total, verdict)
         }
     }
 }
@@ -174,7 +171,7 @@ pub fn receive_parts(
     match s.ready() {
         Readiness::Ready => match judge_first(part, windows, s, number, store, bytes) {
             Judged::Wait(n) => unchanged(s, Answer::Wait(n)),
-            Judged::Fpdu { total, verdict } => apply(s, total, verdict),
+            Judged::Fpdu(total, verdict) => apply(s, total, verdict),
         },
         Readiness::NotReady(refusal) => unchanged(s, Answer::Refused(refusal)),
     }
