@@ -1,26 +1,31 @@
--- Receive on the owner's entry is the device's receive: the entry put back, and the same answer and store. Where the call is refused the entry comes back as it was, and putting it back changes nothing.
+-- Receive on what it needs of the owner's entry is the device's receive: the windows and the one stream put back, and the same answer and store. Where the call is refused they come back as they were, and putting them back changes nothing.
 use mathlib.Core.Path.{_≡_, refl, sym, ap, _∙_}
 use Prim.Native.Nat.{ℕ, _<_, _≤_, _/_, _%_}
 use native.Mathlib.Omega.{arith}
 use mathlib.Core.Bool.{Bool, true, false}
 use mathlib.Core.List.{List}
-use lib.ListN.{length}
+use lib.ListN.{length, set}
 use lib.Dec.{leb, eqb}
 use lib.Seq.{set-getD}
 use borrow.Author.Tests.{leb-true}
 use Rattle.wire.specs.Wire.{pick}
-use Rattle.domain.specs.Domain.{domainReceived}
+use Rattle.domain.specs.Domain.{streamAt, noStream}
+use Rattle.domain.specs.Parts.{partsReceived, partsReceivedBytes}
+use Rattle.rdmap.specs.declared.stream.Stream.{Stream}
+use Rattle.domain.specs.declared.Answer.{Answer}
 use Rattle.domain.specs.declared.Answer.the-variants.{Refused}
 use Rattle.domain.specs.declared.Domain.{Domain}
 use Rattle.domain.specs.declared.Received.{Received}
-use Rattle.rnic.specs.Rnic.{domainAt, noDomain, withDomain, partFits, rnicReceived, rnicReceivedStore, receivedOwned, receivedOwnedStore}
+use Rattle.domain.proofs.Lift.{parts-lifted, parts-bytes}
+use Rattle.rnic.specs.Rnic.{domainAt, noDomain, withDomain, withBytes, bytesOf, partFits, rnicReceived, rnicReceivedStore, receivedOwned, receivedOwnedStore}
 use Rattle.rnic.specs.declared.Rnic.{Rnic}
 use Rattle.rnic.specs.declared.RnicReceived.{RnicReceived}
 use Rattle.rnic_c.specs.Words.{answerWords}
 use Rattle.rnic_c.specs.Call.{calledReceive}
-use Rattle.rnic_c.specs.Entry.{ownerOf, entryOwned, entryOwnedStore, entryReceived, entryReceivedStore}
+use Rattle.rnic_c.specs.Entry.{ownerOf, slotOf, unchanged, changed, keptOwned, keptOwnedAnswer, keptOwnedStore, keptReceived, keptAnswer, keptStore}
+use Rattle.rnic_c.specs.declared.entry.Kept.{Kept}
 
--- the owner is one of the four
+-- the owner is one of the four, and so is the slot
 pub owner-inside : (n : ℕ) → ownerOf n < 4
 owner-inside n = go (leb n 15) (λ e. leb-true n 15 e)
   where
@@ -28,48 +33,84 @@ owner-inside n = go (leb n 15) (λ e. leb-true n 15 e)
     go true l = omega (arith, l refl)
     go false l = omega arith
 
+pub slot-inside : (n : ℕ) → slotOf n < 4
+slot-inside n = omega arith
+
+slot-below : (n : ℕ) → slotOf n ≤ 3
+slot-below n = omega arith
+
 module _ (b : Rnic) where
-  -- an entry that is put back as it was
-  back : (i : ℕ) → withDomain b i (domainAt b i) ≡ b
-  back i = ap (λ ds. record { len = b .len; domains = ds }) (set-getD (b .domains) i noDomain)
+  -- a domain with its windows and one stream exchanged, and the device with it
+  abbrev pub domainWith : ℕ → ℕ → Kept → Domain
+  domainWith i j k = record { part = domainAt b i .part; windows = k .windows; streams = set (domainAt b i .streams) j (k .stream) }
 
-  -- what the device makes of what an entry gives
-  abbrev lift : ℕ → Received → RnicReceived
-  lift i r = record { answer = r .answer; rnic = withDomain b i (r .domain) }
+  abbrev pub kept : ℕ → ℕ → Kept → Rnic
+  kept i j k = withDomain b i (domainWith i j k)
 
-  refused : (i k : ℕ) → record { answer = Refused k; rnic = b } ≡ lift i (record { answer = Refused k; domain = domainAt b i })
-  refused i k = ap (λ d. record { answer = Refused k; rnic = d }) (sym (back i))
+  -- put back as they were
+  back : (i j : ℕ) → kept i j (unchanged (domainAt b i .windows) (streamAt (domainAt b i) j)) ≡ b
+  back i j =
+      ap (λ (ss : List Stream). withDomain b i (record { part = domainAt b i .part; windows = domainAt b i .windows; streams = ss })) (set-getD (domainAt b i .streams) j noStream)
+      ∙ ap (λ ds. record { len = b .len; domains = ds }) (set-getD (b .domains) i noDomain)
 
-  unless : (t : Bool) (i k : ℕ) (x : RnicReceived) (r : Received) → x ≡ lift i r → pick t x (record { answer = Refused k; rnic = b }) ≡ lift i (pick t r (record { answer = Refused k; domain = domainAt b i }))
-  unless true i k x r e = e
-  unless false i k x r e = refused i k
+  abbrev lift : ℕ → ℕ → Answer → Kept → RnicReceived
+  lift i j a k = record { answer = a; rnic = kept i j k }
 
-  owned : (size n : ℕ) (input : List ℕ) → receivedOwned b size n input ≡ lift (n / 4) (entryOwned (domainAt b (n / 4)) size n input)
-  unfolding receivedOwned
-  owned size n input = unless (partFits (domainAt b (n / 4)) size) (n / 4) 9 _ (domainReceived (domainAt b (n / 4)) (n / 4) (n % 4) input) refl
+  refused : (i j k : ℕ) → record { answer = Refused k; rnic = b } ≡ lift i j (Refused k) (unchanged (domainAt b i .windows) (streamAt (domainAt b i) j))
+  refused i j k = ap (λ d. record { answer = Refused k; rnic = d }) (sym (back i j))
 
-  pub received-is : (size n : ℕ) (input : List ℕ) → rnicReceived b size n input ≡ lift (ownerOf n) (entryReceived (domainAt b (ownerOf n)) (b .len) size n input)
-  unfolding rnicReceived entryReceived
-  received-is size n input = go (leb n 15)
-    where
-      go : (t : Bool) → pick t (pick (eqb size (b .len)) (receivedOwned b size n input) (record { answer = Refused 2; rnic = b })) (record { answer = Refused 1; rnic = b }) ≡ lift (pick t (n / 4) 0) (pick t (pick (eqb size (b .len)) (entryOwned (domainAt b (pick t (n / 4) 0)) size n input) (record { answer = Refused 2; domain = domainAt b (pick t (n / 4) 0) })) (record { answer = Refused 1; domain = domainAt b (pick t (n / 4) 0) }))
-      go true = unless (eqb size (b .len)) (n / 4) 2 (receivedOwned b size n input) (entryOwned (domainAt b (n / 4)) size n input) (owned size n input)
-      go false = refused 0 1
+  unless : (t : Bool) (i j k : ℕ) (x : RnicReceived) (a : Answer) (r : Kept) → x ≡ lift i j a r
+      → pick t x (record { answer = Refused k; rnic = b }) ≡ lift i j (pick t a (Refused k)) (pick t r (unchanged (domainAt b i .windows) (streamAt (domainAt b i) j)))
+  unless true i j k x a r e = e
+  unless false i j k x a r e = refused i j k
 
-  pub store-is : (n : ℕ) (input mem : List ℕ) → rnicReceivedStore b n input mem ≡ entryReceivedStore (domainAt b (ownerOf n)) (b .len) n input mem
-  unfolding rnicReceivedStore receivedOwnedStore entryReceivedStore
-  store-is n input mem = go (leb n 15)
-    where
-      go : (t : Bool) → pick t (pick (eqb (length mem) (b .len)) (receivedOwnedStore b n input mem) mem) mem ≡ pick t (pick (eqb (length mem) (b .len)) (entryOwnedStore (domainAt b (pick t (n / 4) 0)) n input mem) mem) mem
-      go true = refl
-      go false = refl
+  module _ (n : ℕ) (input : List ℕ) where
+    abbrev dom : ℕ → Domain
+    dom i = domainAt b i
 
-  -- what is known of the entry, the answer's words and the store after receive_entry, of the device
-  pub entry-told : (i n : ℕ) (input mem : List ℕ) (r : Domain) (words bytes : List ℕ) → i ≡ ownerOf n
-      → (r ≡ entryReceived (domainAt b i) (b .len) (length mem) n input .domain) × (words ≡ answerWords (entryReceived (domainAt b i) (b .len) (length mem) n input .answer)) × (bytes ≡ entryReceivedStore (domainAt b i) (b .len) n input mem)
-      → (withDomain b i r ≡ calledReceive b (length mem) n input .rnic) × (words ≡ calledReceive b (length mem) n input .words) × (bytes ≡ rnicReceivedStore b n input mem)
-  entry-told i n input mem r words bytes e t = (
-    ap (λ (d : Domain). withDomain b i d) (t .0) ∙ ap (λ (j : ℕ). lift j (entryReceived (domainAt b j) (b .len) (length mem) n input) .rnic) e ∙ sym (ap (λ x. x .rnic) (received-is (length mem) n input)),
-    t .1 ∙ ap (λ (j : ℕ). answerWords (entryReceived (domainAt b j) (b .len) (length mem) n input .answer)) e ∙ sym (ap (λ x. answerWords (x .answer)) (received-is (length mem) n input)),
-    t .2 ∙ ap (λ (j : ℕ). entryReceivedStore (domainAt b j) (b .len) n input mem) e ∙ sym (store-is n input mem),
-  )
+    abbrev str : ℕ → Stream
+    str i = streamAt (domainAt b i) (n % 4)
+
+    owned : (size : ℕ) → receivedOwned b size n input ≡ lift (n / 4) (n % 4) (keptOwnedAnswer (dom (n / 4) .part) (dom (n / 4) .windows) (str (n / 4)) size n input) (keptOwned (dom (n / 4) .part) (dom (n / 4) .windows) (str (n / 4)) size n input)
+    unfolding receivedOwned
+    owned size = unless (partFits (dom (n / 4)) size) (n / 4) (n % 4) 9 _ (partsReceived (dom (n / 4) .windows) (n / 4) (str (n / 4)) input .answer) (changed (dom (n / 4) .windows) (partsReceived (dom (n / 4) .windows) (n / 4) (str (n / 4)) input))
+        (ap (λ (r : Received). record { answer = r .answer; rnic = withDomain b (n / 4) (r .domain) }) (parts-lifted (dom (n / 4)) (n / 4) (n % 4) input (slot-below n)))
+
+    pub received-is : (size : ℕ) → rnicReceived b size n input ≡ lift (ownerOf n) (n % 4) (keptAnswer (dom (ownerOf n) .part) (dom (ownerOf n) .windows) (str (ownerOf n)) (b .len) size n input) (keptReceived (dom (ownerOf n) .part) (dom (ownerOf n) .windows) (str (ownerOf n)) (b .len) size n input)
+    unfolding rnicReceived keptReceived keptAnswer
+    received-is size = go (leb n 15)
+      where
+        go : (t : Bool) → pick t (pick (eqb size (b .len)) (receivedOwned b size n input) (record { answer = Refused 2; rnic = b })) (record { answer = Refused 1; rnic = b })
+            ≡ lift (pick t (n / 4) 0) (n % 4)
+            (pick t (pick (eqb size (b .len)) (keptOwnedAnswer (dom (pick t (n / 4) 0) .part) (dom (pick t (n / 4) 0) .windows) (str (pick t (n / 4) 0)) size n input) (Refused 2)) (Refused 1))
+            (pick t (pick (eqb size (b .len)) (keptOwned (dom (pick t (n / 4) 0) .part) (dom (pick t (n / 4) 0) .windows) (str (pick t (n / 4) 0)) size n input) (unchanged (dom (pick t (n / 4) 0) .windows) (str (pick t (n / 4) 0)))) (unchanged (dom (pick t (n / 4) 0) .windows) (str (pick t (n / 4) 0))))
+        go true = unless (eqb size (b .len)) (n / 4) (n % 4) 2 (receivedOwned b size n input) (keptOwnedAnswer (dom (n / 4) .part) (dom (n / 4) .windows) (str (n / 4)) size n input) (keptOwned (dom (n / 4) .part) (dom (n / 4) .windows) (str (n / 4)) size n input) (owned size)
+        go false = refused 0 (n % 4) 1
+
+    owned-store : (mem : List ℕ) → receivedOwnedStore b n input mem ≡ keptOwnedStore (dom (n / 4) .part) (dom (n / 4) .windows) (str (n / 4)) n input mem
+    unfolding receivedOwnedStore
+    owned-store mem = ap (λ (ys : List ℕ). pick (partFits (dom (n / 4)) (length mem)) (withBytes (dom (n / 4)) mem ys) mem) (parts-bytes (dom (n / 4)) (n / 4) (n % 4) input (bytesOf (dom (n / 4)) mem) (slot-below n))
+
+    pub store-is : (mem : List ℕ) → rnicReceivedStore b n input mem ≡ keptStore (dom (ownerOf n) .part) (dom (ownerOf n) .windows) (str (ownerOf n)) (b .len) n input mem
+    unfolding rnicReceivedStore keptStore
+    store-is mem = go (leb n 15)
+      where
+        go : (t : Bool) → pick t (pick (eqb (length mem) (b .len)) (receivedOwnedStore b n input mem) mem) mem ≡ pick t (pick (eqb (length mem) (b .len)) (keptOwnedStore (dom (pick t (n / 4) 0) .part) (dom (pick t (n / 4) 0) .windows) (str (pick t (n / 4) 0)) n input mem) mem) mem
+        go true = ap (λ (ys : List ℕ). pick (eqb (length mem) (b .len)) ys mem) (owned-store mem)
+        go false = refl
+
+    -- what receive_kept says at the end, of what it was passed of domain i and stream j
+    abbrev pub KeptTold : ℕ → ℕ → List ℕ → Kept → List ℕ → List ℕ → Type 0
+    KeptTold i j mem r words bytes =
+        (r ≡ keptReceived (dom i .part) (dom i .windows) (streamAt (dom i) j) (b .len) (length mem) n input)
+        × (words ≡ answerWords (keptAnswer (dom i .part) (dom i .windows) (streamAt (dom i) j) (b .len) (length mem) n input))
+        × (bytes ≡ keptStore (dom i .part) (dom i .windows) (streamAt (dom i) j) (b .len) n input mem)
+
+    -- and what that says of the device
+    pub kept-told : (i j : ℕ) (mem : List ℕ) (r : Kept) (words bytes : List ℕ) → i ≡ ownerOf n → j ≡ slotOf n → KeptTold i j mem r words bytes
+        → (kept i j r ≡ calledReceive b (length mem) n input .rnic) × (words ≡ calledReceive b (length mem) n input .words) × (bytes ≡ rnicReceivedStore b n input mem)
+    kept-told i j mem r words bytes e f t = (
+      ap (λ (k : Kept). kept i j k) (t .0) ∙ (λ z. kept (e z) (f z) (keptReceived (dom (e z) .part) (dom (e z) .windows) (streamAt (dom (e z)) (f z)) (b .len) (length mem) n input)) ∙ sym (ap (λ x. x .rnic) (received-is (length mem))),
+      t .1 ∙ (λ z. answerWords (keptAnswer (dom (e z) .part) (dom (e z) .windows) (streamAt (dom (e z)) (f z)) (b .len) (length mem) n input)) ∙ sym (ap (λ x. answerWords (x .answer)) (received-is (length mem))),
+      t .2 ∙ (λ z. keptStore (dom (e z) .part) (dom (e z) .windows) (streamAt (dom (e z)) (f z)) (b .len) n input mem) ∙ sym (store-is mem),
+    )

@@ -1,3 +1,6 @@
 pub mod Entries
 pub mod Cells
 pub mod Constants
+pub mod Parted
+pub mod Raws
+pub mod Halves

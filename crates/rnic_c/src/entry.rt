@@ -1,21 +1,32 @@
-// Receive on the owner's entry alone, so that no other domain is copied: the device's receive, of one
-// domain and the store's length.
+// Receive on what it needs of the owner's entry, so that nothing else of the device is copied: the
+// part, the windows and the one stream, and the store's length.
 ghost use mathlib.Core.Path.{_≡_};
-ghost use Prim.Native.Nat.{_≤_};
 ghost use lib.ListN.{length};
 ghost use Rattle.rnic_c.specs.Words.{answerWords};
+ghost use Rattle.domain.specs.Parts.{killed};
 ghost use Rattle.rnic_c.specs.Entry.{
   ownerOf,
-  entryOwned,
-  entryOwnedStore,
-  entryReceived,
-  entryReceivedStore,
+  slotOf,
+  keptOwned,
+  keptOwnedAnswer,
+  keptOwnedStore,
+  keptReceived,
+  keptAnswer,
+  keptStore,
 };
 use crate::words::answer_words;
 use crate::words::words;
-use domain::Answer;
-use domain::Domain;
-use domain::Received;
+use ddp::part::Part;
+use ddp::window::Window;
+use domain::parts::receive_parts;
+use rdmap::message::Invalidate;
+use rdmap::stream::Stream;
+
+// What a receive leaves of the owner's entry: its windows and the one stream.
+pub struct Kept {
+    pub windows: [Window; 16],
+    pub stream: Stream,
+}
 
 // The domain that owns a stream; the first for a number that is no stream's.
 pub(crate) fn owner_of(stream: u64) -> usize
@@ -27,45 +38,80 @@ pub(crate) fn owner_of(stream: u64) -> usize
     0
 }
 
-// Takes the first FPDU of bytes for a stream in range, with a store of the right length.
-fn receive_owned(d: Domain, store: &mut [u8], stream: u64, bytes: &[u8]) -> Received
-    ensures { λ r. ⌜ (r ≡ entryOwned d (length (now (store .entry))) stream (now (bytes .entry))) × (now (store .exit) ≡ entryOwnedStore d stream (now (bytes .entry)) (now (store .entry))) ⌝ }
+// The slot of a stream in its domain.
+pub(crate) fn slot_of(stream: u64) -> usize
+    ensures { λ r. ⌜ r ≡ slotOf stream ⌝ }
 {
-    let part = d.part;
-    let start = part.start as usize;
-    let end = part.end as usize;
-    if start <= end {
-        if end <= store.len() {
-            return domain::receive(d, stream / 4, &mut store[start..end], stream % 4, bytes);
+    (stream % 4) as usize
+}
+
+// The windows with the one dead whose STag a Send invalidated.
+fn kill(windows: [Window; 16], which: Invalidate) -> [Window; 16]
+    ensures { λ r. ⌜ r ≡ killed which windows ⌝ }
+{
+    match which {
+        Invalidate::NoStag => windows,
+        Invalidate::Stag { slot, stag: _ } => {
+            let done = ddp::window::drop_window(windows, slot as u64);
+            done.windows
         }
-    }
-    Received {
-        answer: Answer::Refused(9),
-        domain: d,
     }
 }
 
-// Takes the first FPDU of bytes for a stream, of the entry of its owner and the length of the store.
-pub(crate) fn receive_entry(
-    d: Domain,
+// Takes the first FPDU of bytes for a stream in range, with a store of the right length.
+fn receive_owned(
+    part: Part,
+    windows: [Window; 16],
+    s: Stream,
+    store: &mut [u8],
+    stream: u64,
+    bytes: &[u8],
+    answer: &mut [u64; 8],
+) -> Kept
+    ensures { λ r. ⌜ (r ≡ keptOwned part windows s (length (now (store .entry))) stream (now (bytes .entry))) × (now (answer .exit) ≡ answerWords (keptOwnedAnswer part windows s (length (now (store .entry))) stream (now (bytes .entry)))) × (now (store .exit) ≡ keptOwnedStore part windows s stream (now (bytes .entry)) (now (store .entry))) ⌝ }
+{
+    let start = part.start as usize;
+    let end = part.end as usize;
+    if end < start {
+        *answer = words(0, 9, 0, 0, 0, 0);
+        return Kept { windows, stream: s };
+    }
+    if store.len() < end {
+        *answer = words(0, 9, 0, 0, 0, 0);
+        return Kept { windows, stream: s };
+    }
+    let done = receive_parts(part, windows, s, stream / 4, &mut store[start..end], bytes);
+    let received = done.answer;
+    *answer = answer_words(received);
+    let which = done.invalidate;
+    let after = done.stream;
+    Kept {
+        windows: kill(windows, which),
+        stream: after,
+    }
+}
+
+// Takes the first FPDU of bytes for a stream, of what it needs of its owner's entry and the length
+// of the store.
+pub(crate) fn receive_kept(
+    part: Part,
+    windows: [Window; 16],
+    s: Stream,
     len: u32,
     store: &mut [u8],
     stream: u64,
     bytes: &[u8],
     answer: &mut [u64; 8],
-) -> Domain
-    ensures { λ r. ⌜ (r ≡ entryReceived d len (length (now (store .entry))) stream (now (bytes .entry)) .domain) × (now (answer .exit) ≡ answerWords (entryReceived d len (length (now (store .entry))) stream (now (bytes .entry)) .answer)) × (now (store .exit) ≡ entryReceivedStore d len stream (now (bytes .entry)) (now (store .entry))) ⌝ }
+) -> Kept
+    ensures { λ r. ⌜ (r ≡ keptReceived part windows s len (length (now (store .entry))) stream (now (bytes .entry))) × (now (answer .exit) ≡ answerWords (keptAnswer part windows s len (length (now (store .entry))) stream (now (bytes .entry)))) × (now (store .exit) ≡ keptStore part windows s len stream (now (bytes .entry)) (now (store .entry))) ⌝ }
 {
     if stream <= 15 {
         if store.len() == len as usize {
-            let done = receive_owned(d, store, stream, bytes);
-            let received = done.answer;
-            *answer = answer_words(received);
-            return done.domain;
+            return receive_owned(part, windows, s, store, stream, bytes, answer);
         }
         *answer = words(0, 2, 0, 0, 0, 0);
-        return d;
+        return Kept { windows, stream: s };
     }
     *answer = words(0, 1, 0, 0, 0, 0);
-    d
+    Kept { windows, stream: s }
 }

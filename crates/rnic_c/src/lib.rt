@@ -19,7 +19,8 @@ use crate::calls::call_receive;
 use crate::calls::call_register;
 use crate::calls::call_take;
 use crate::entry::owner_of;
-use crate::entry::receive_entry;
+use crate::entry::receive_kept;
+use crate::entry::slot_of;
 use crate::words::words;
 use rnic::Rnic;
 
@@ -78,8 +79,8 @@ pub extern "C" fn rnic_c_call(
     *device = next;
 }
 
-// The device's receive by itself: what `rnic_c_call` does with the number 9, but that the owner's
-// entry alone is copied and not the whole device.
+// The device's receive by itself: what `rnic_c_call` does with the number 9, but that of the owner's
+// entry the part, the windows and the one stream are copied, and nothing else of the device.
 #[no_mangle]
 pub extern "C" fn rnic_c_receive(
     device: &mut Rnic,
@@ -91,9 +92,13 @@ pub extern "C" fn rnic_c_receive(
     ensures { λ _. ⌜ (now (device .exit) ≡ calledReceive (now (device .entry)) (length (now (store .entry))) stream (now (bytes .entry)) .rnic) × (now (answer .exit) ≡ calledReceive (now (device .entry)) (length (now (store .entry))) stream (now (bytes .entry)) .words) × (now (store .exit) ≡ rnicReceivedStore (now (device .entry)) stream (now (bytes .entry)) (now (store .entry))) ⌝ }
 {
     let owner = owner_of(stream);
-    let entry = device.domains[owner];
-    let next = receive_entry(entry, device.len, store, stream, bytes, answer);
-    device.domains[owner] = next;
+    let slot = slot_of(stream);
+    let part = device.domains[owner].part;
+    let windows = device.domains[owner].windows;
+    let s = device.domains[owner].streams[slot];
+    let next = receive_kept(part, windows, s, device.len, store, stream, bytes, answer);
+    device.domains[owner].windows = next.windows;
+    device.domains[owner].streams[slot] = next.stream;
 }
 
 // The CRC-32C of bytes, by which a program can write frames of its own.
