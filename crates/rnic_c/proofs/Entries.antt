@@ -10,7 +10,7 @@ use lib.Seq.{set-getD}
 use borrow.Author.Tests.{leb-true}
 use Rattle.wire.specs.Wire.{pick}
 use Rattle.domain.specs.Domain.{streamAt, noStream}
-use Rattle.domain.specs.Parts.{partsReceived, partsReceivedBytes}
+use Rattle.domain.specs.Parts.{partsReceived}
 use Rattle.rdmap.specs.declared.stream.Stream.{Stream}
 use Rattle.domain.specs.declared.Answer.{Answer}
 use Rattle.domain.specs.declared.Answer.the-variants.{Refused}

@@ -28,7 +28,7 @@ use types.SemTy.{Body}
 use sound.WpLaws.{FmC, fmOf, WpFn-mono}
 use denote.RattleType.{owns}
 use denote.Laws.{Is, shows}
-use denote.Memory.{mem, shares, lone, cellAt, partAt}
+use denote.Memory.{mem, shares, lone, cellAt}
 use denote.Plain.{uint-vals, uint-tells, uint-makes, uint-lawful}
 use denote.Builtin.{u8, u32, u64, usize, Array}
 use denote.Array as AA
@@ -51,7 +51,7 @@ use denote.Exit.{yes}
 use Rattle.rdmap.specs.declared.stream.Stream.{Stream}
 use Rattle.domain.specs.Domain.{noStream, withWindows}
 use Rattle.domain.specs.declared.Domain.{Domain}
-use Rattle.rnic.specs.Rnic.{noDomain, withDomain, rnicReceivedStore}
+use Rattle.rnic.specs.Rnic.{noDomain, rnicReceivedStore}
 use Rattle.rnic.specs.declared.Rnic.{Rnic}
 use Rattle.rnic_c.specs.Call.{calledReceive}
 use Rattle.rnic_c.specs.Entry.{ownerOf, slotOf}
