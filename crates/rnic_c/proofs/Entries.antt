@@ -20,8 +20,8 @@ use Rattle.domain.proofs.Lift.{parts-lifted, parts-bytes}
 use Rattle.rnic.specs.Rnic.{domainAt, noDomain, withDomain, withBytes, bytesOf, partFits, rnicReceived, rnicReceivedStore, receivedOwned, receivedOwnedStore}
 use Rattle.rnic.specs.declared.Rnic.{Rnic}
 use Rattle.rnic.specs.declared.RnicReceived.{RnicReceived}
-use Rattle.rnic_c.specs.Words.{answerWords}
-use Rattle.rnic_c.specs.Call.{calledReceive}
+use Rattle.calls.specs.Words.{answerWords}
+use Rattle.calls.specs.Call.{calledReceive}
 use Rattle.rnic_c.specs.Entry.{ownerOf, slotOf, unchanged, changed, keptOwned, keptOwnedAnswer, keptOwnedStore, keptReceived, keptAnswer, keptStore}
 use Rattle.rnic_c.specs.declared.entry.Kept.{Kept}
 

@@ -2,7 +2,7 @@
 // part, the windows and the one stream, and the store's length.
 ghost use mathlib.Core.Path.{_≡_};
 ghost use lib.ListN.{length};
-ghost use Rattle.rnic_c.specs.Words.{answerWords};
+ghost use Rattle.calls.specs.Words.{answerWords};
 ghost use Rattle.domain.specs.Parts.{killed};
 ghost use Rattle.rnic_c.specs.Entry.{
   ownerOf,
@@ -14,8 +14,8 @@ ghost use Rattle.rnic_c.specs.Entry.{
   keptAnswer,
   keptStore,
 };
-use crate::words::answer_words;
-use crate::words::words;
+use calls::words::answer_words;
+use calls::words::words;
 use ddp::part::Part;
 use ddp::window::Window;
 use domain::parts::receive_parts;

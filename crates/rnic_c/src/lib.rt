@@ -1,67 +1,20 @@
 // The device for a C program, or one in Rust: it holds a device of its own and a store of any size
 // up to 16 MiB, and calls the device by a call's number with nine numbers, or its receive by itself.
 //
-// Read `rnic_c_call` first, then `call`, which does a call by value. The numbers of the calls stand
-// in specs/Call.antt and the words of the answers in specs/Words.antt; include/rnic.h has both for C.
+// Read `rnic_c_call` first, over `call` of the crate `calls`, which has the numbers of the calls and the
+// words of the answers; include/rnic.h has both for C.
 ghost use mathlib.Core.Path.{_≡_};
 ghost use lib.ListN.{length};
-ghost use Rattle.rnic_c.specs.Call.{called, calledStore, calledReceive};
+ghost use Rattle.calls.specs.Call.{called, calledStore, calledReceive};
 ghost use Rattle.rnic.specs.Rnic.{rnicReceivedStore};
 ghost use Rattle.crc32c.specs.Crc.{crcOf};
-use crate::calls::call_close_stream;
-use crate::calls::call_drop_window;
-use crate::calls::call_live_count;
-use crate::calls::call_lowest_free;
-use crate::calls::call_open;
-use crate::calls::call_open_stream;
-use crate::calls::call_post;
-use crate::calls::call_receive;
-use crate::calls::call_register;
-use crate::calls::call_take;
 use crate::entry::owner_of;
 use crate::entry::receive_kept;
 use crate::entry::slot_of;
-use crate::words::words;
+use calls::call;
 use rnic::Rnic;
 
-mod calls;
 mod entry;
-mod words;
-
-// The call of a number, with its nine numbers, its bytes and the store; the answer's words.
-pub fn call(
-    b: Rnic,
-    store: &mut [u8],
-    number: u64,
-    a: &[u64; 9],
-    bytes: &[u8],
-    answer: &mut [u64; 8],
-) -> Rnic
-    ensures { λ r. ⌜ (r ≡ called b (length (now (store .entry))) number (now (a .entry)) (now (bytes .entry)) .rnic) × (now (answer .exit) ≡ called b (length (now (store .entry))) number (now (a .entry)) (now (bytes .entry)) .words) × (now (store .exit) ≡ calledStore b number (now (a .entry)) (now (bytes .entry)) (now (store .entry))) ⌝ }
-{
-    match number {
-        0 => call_open(a, answer),
-        1 => call_open_stream(b, a, answer),
-        2 => call_close_stream(b, a, answer),
-        3 => call_register(b, a, answer),
-        4 => call_drop_window(b, a, answer),
-        5 => call_post(b, a, answer),
-        6 => call_take(b, a, answer),
-        7 => {
-            call_live_count(b, a, answer);
-            b
-        }
-        8 => {
-            call_lowest_free(b, a, answer);
-            b
-        }
-        9 => call_receive(b, store, a[0], bytes, answer),
-        _ => {
-            *answer = words(0, 1, 0, 0, 0, 0);
-            b
-        }
-    }
-}
 
 // A call by its number on a device that the caller holds: `call` of it, put back in its place.
 #[no_mangle]

@@ -43,13 +43,13 @@ use denote.Triple.Table.{entered, cited}
 use denote.Triple.Walked.{says, Stays, stay-ref, stay-dropped, gave-slice, gave-ref, walkOf, AllGo, goes-ref, goes-dropped, goes-gave-slice, goes-gave-ref, Walks, ends-at, walked, walk-meets}
 use denote.Exit.{yes}
 use Rattle.rnic.specs.declared.Rnic.{Rnic}
-use Rattle.rnic_c.specs.Call.{called, calledStore}
+use Rattle.calls.specs.Call.{called, calledStore}
 use Rattle.rnic.proofs.Rnic as T
 use Rattle.rnic.proofs.Rnic.Laws as T′
-use Rattle.rnic_c.proofs.call as call
-use Rattle.rnic_c.proofs.call.Symbol as call-def
-use Rattle.rnic_c.proofs.call.Symbol.{name as #rnic-c·call}
-use Rattle.rnic_c.proofs.call.Met as call-thm
+use Rattle.calls.proofs.call as call
+use Rattle.calls.proofs.call.Symbol as call-def
+use Rattle.calls.proofs.call.Symbol.{name as #calls·call}
+use Rattle.calls.proofs.call.Met as call-thm
 use Rattle.rnic_c.proofs.rnic_c_call.Key.{name as #rnic-c·rnic-c-call}
 use Rattle.rnic_c.proofs.rnic_c_call as exported
 use Rattle.rnic_c.proofs.rnic_c_call.Statement as stated
@@ -131,7 +131,7 @@ module _ {M : Type 1} (𝓤 : URA M) (H : Heap 𝓤) (A : Atoms 𝓤) (W : Given
   typed : (d : Rnic) (v : Val) → Is T.the-row d (v ∷ []) → Holds (hasTy T′.mir v) × WT v
   typed d v g = LL.lawful T.the-type T′.the-laws 𝓤 H A W .typed d (v ∷ []) g .0
 
-  module _ (C : Calls 𝓤 H) (Λ : Loops 𝓤 H) (fm : FmC 𝓤 H (W .laws) C) (known : Triple 𝓤 (C #rnic-c·call) (Called 𝓤 H A at-mem run)) where
+  module _ (C : Calls 𝓤 H) (Λ : Loops 𝓤 H) (fm : FmC 𝓤 H (W .laws) C) (known : Triple 𝓤 (C #calls·call) (Called 𝓤 H A at-mem run)) where
     walk : Room u8 (length (store .now)) → n < 2 ^ 64 → Room u8 (length (bytes .now)) → ent 𝓤 (onEntry 𝓤 H A exported.signature (κ, κs) (q, qs) x at) (WpFn 𝓤 H C Λ code.function (vptr b o ∷ s₁ ∷ vint w64 n ∷ vptr (a .ptr .0) (a .ptr .1) ∷ s₂ ∷ vptr (answer .ptr .0) (answer .ptr .1) ∷ []) Post)
     walk room fits room₂ =
         qed W ((‵ (flft κ q) ⊛ ‵ (flft κ₁ q₁) ⊛ ‵ (flft κ₂ q₂) ⊛ ‵ (flft κ₃ q₃) ⊛ ‵ (flft κ₄ q₄) ⊛ ‵ ftrue) ∷ ‵ (owns (MutRef (named 0) κ T.the-row ∷ MutSlice (named 1) κ₁ u8 ∷ u64 ∷ ShrRef (named 2) κ₂ (Array u64 tt 9) ∷ ShrSlice (named 3) κ₃ u8 ∷ MutRef (named 4) κ₄ (Array u64 tt 8) ∷ []) x at) ∷ []) ∵
@@ -164,7 +164,7 @@ module _ {M : Type 1} (𝓤 : URA M) (H : Heap 𝓤) (A : Atoms 𝓤) (W : Given
         keep ! (0 ∷ 1 ∷ 2 ∷ 3 ∷ 4 ∷ []) $ by ! (exits r (zs .1 .1 .1 .1 .1 .0) (zs .1 .0) e l)))))))))))))))))))))
 
 module _ {M : Type 1} (𝓤 : URA M) (H : Heap 𝓤) (A : Atoms 𝓤) (W : Given 𝓤 H A) (at-mem : Memory → SProp 𝓤) (run : Routine → Fun 𝓤) where
-  call-walks : (C : Calls 𝓤 H) (Λ : Loops 𝓤 H) → FmC 𝓤 H (W .laws) C → Triple 𝓤 (C #rnic-c·call) (Called 𝓤 H A at-mem run) → Walks 𝓤 H A exported.ended stayed (WpFn 𝓤 H C Λ code.function) (exported.clauses 𝓤 H A at-mem run)
+  call-walks : (C : Calls 𝓤 H) (Λ : Loops 𝓤 H) → FmC 𝓤 H (W .laws) C → Triple 𝓤 (C #calls·call) (Called 𝓤 H A at-mem run) → Walks 𝓤 H A exported.ended stayed (WpFn 𝓤 H C Λ code.function) (exported.clauses 𝓤 H A at-mem run)
   call-walks C Λ fm known = walked 𝓤 H A exported.ended stayed (exported.clauses 𝓤 H A at-mem run) (WpFn 𝓤 H C Λ code.function)
       (λ κs. (ptr-vals, (slice-vals, (uint-vals w64, (ptr-vals, (slice-vals, (ptr-vals, tt)))))))
       (λ κs. (mut-tells (named 0) (κs .0) T.the-row, (mut-slice-tells (named 1) (κs .1 .0) u8, (uint-tells w64, (shr-tells (named 2) (κs .1 .1 .0) (Array u64 tt 9), (shr-slice-tells (named 3) (κs .1 .1 .1 .0) u8, (mut-tells (named 4) (κs .1 .1 .1 .1 .0) (Array u64 tt 8), tt)))))))
@@ -178,7 +178,7 @@ module _ {M : Type 1} (𝓤 : URA M) (H : Heap 𝓤) (A : Atoms 𝓤) (W : Given
     (goes-gave-slice 𝓤 H A W 5 1 tt (plain (λ _. u8)), (goes-dropped 𝓤 H A W 5 (plain (λ _. u64)) yes (λ κs x f. refl), (goes-dropped 𝓤 H A W 5 (shrRefTo (2 ∷ []) tt (plain (λ _. Array u64 tt 9))) yes (λ κs x f. refl), (goes-dropped 𝓤 H A W 5 (shrSliceOf (3 ∷ []) tt (plain (λ _. u8))) yes (λ κs x f. refl), (goes-gave-ref 𝓤 H A W 5 4 tt (plain (λ _. Array u64 tt 8)), tt))))),
   )
 
-call-meets : {M : Type 1} (𝓤 : URA M) (H : Heap 𝓤) (A : Atoms 𝓤) → Given 𝓤 H A → (at-mem : Memory → SProp 𝓤) (run : Routine → Fun 𝓤) (𝓣 : Tables 𝓤 H) → Triple 𝓤 (𝓣 .C #rnic-c·call) (Called 𝓤 H A at-mem run)
+call-meets : {M : Type 1} (𝓤 : URA M) (H : Heap 𝓤) (A : Atoms 𝓤) → Given 𝓤 H A → (at-mem : Memory → SProp 𝓤) (run : Routine → Fun 𝓤) (𝓣 : Tables 𝓤 H) → Triple 𝓤 (𝓣 .C #calls·call) (Called 𝓤 H A at-mem run)
     → Meets 𝓤 H A exported.signature (WpFn 𝓤 H (𝓣 .C) (𝓣 .Λ) code.function) (exported.spec 𝓤 H A at-mem run)
 call-meets 𝓤 H A W at-mem run 𝓣 known =
     walk-meets 𝓤 H A exported.ended stayed W (goes 𝓤 H A W at-mem run) (exported.clauses 𝓤 H A at-mem run) (WpFn 𝓤 H (𝓣 .C) (𝓣 .Λ) code.function) (WpFn-mono 𝓤 H (W .laws) 𝓣 code.function)
@@ -190,4 +190,4 @@ rnic-c-call-spec 𝓤 H 𝓜 𝓖 𝓡 =
     entered 𝓤 H (tripleOf 𝓤 H (𝓖 .A) exported.signature (exported.spec 𝓤 H (𝓖 .A) (𝓜 .mem) (𝓡 .run)))
     (tables 𝓤 H 𝓜 𝓡 code.env .C) (tables 𝓤 H 𝓜 𝓡 code.env .Λ) #rnic-c·rnic-c-call code.function (code.unfolded 𝓤 H 𝓜 𝓡)
     (call-meets 𝓤 H (𝓖 .A) (givenOf 𝓤 H 𝓜 𝓖) (𝓜 .mem) (𝓡 .run) (tablesOf 𝓤 H 𝓜 (tables 𝓤 H 𝓜 𝓡 code.env))
-    (cited 𝓤 H (Called 𝓤 H (𝓖 .A) (𝓜 .mem) (𝓡 .run)) 𝓜 𝓡 code.env #rnic-c·call call-def.routine code.calls-rnic-c·call (call-thm.met 𝓤 H 𝓜 𝓖 𝓡)))
+    (cited 𝓤 H (Called 𝓤 H (𝓖 .A) (𝓜 .mem) (𝓡 .run)) 𝓜 𝓡 code.env #calls·call call-def.routine code.calls-calls·call (call-thm.met 𝓤 H 𝓜 𝓖 𝓡)))

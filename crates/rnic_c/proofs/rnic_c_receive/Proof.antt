@@ -53,7 +53,7 @@ use Rattle.domain.specs.Domain.{noStream, withWindows}
 use Rattle.domain.specs.declared.Domain.{Domain}
 use Rattle.rnic.specs.Rnic.{noDomain, rnicReceivedStore}
 use Rattle.rnic.specs.declared.Rnic.{Rnic}
-use Rattle.rnic_c.specs.Call.{calledReceive}
+use Rattle.calls.specs.Call.{calledReceive}
 use Rattle.rnic_c.specs.Entry.{ownerOf, slotOf}
 use Rattle.rnic_c.specs.declared.entry.Kept.{Kept}
 use Rattle.rnic_c.proofs.Constants.{big-lit}

@@ -1,7 +1,7 @@
 -- `receive_owned` meets its contract: the two tests are those of `liesIn`, and the rest is what `receive_parts` gives.
 use mathlib.Core.Path.{ap, _∙_}
 use borrow.Author.Tests.{le-leb, lt-leb}
-use Rattle.rnic_c.specs.Words.{answerWords}
+use Rattle.calls.specs.Words.{answerWords}
 use Rattle.rnic_c.specs.Entry.{changed}
 use borrow.Author.Needs.{needs}
 use Rattle.rnic_c.proofs.entry.receive_owned.Statement.{statement}

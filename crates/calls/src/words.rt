@@ -1,0 +1,119 @@
+// The words of an answer: word 0 says its kind, the next ones are its numbers, those that are left
+// are 0. The kinds stand in specs/Words.antt, and in include/rnic.h for a C program.
+ghost use mathlib.Core.Path.{_≡_};
+ghost use Rattle.calls.specs.Words.{
+  words as wordsOf,
+  outcomeWords,
+  closeWords,
+  takeWords,
+  countWords,
+  eventWords,
+  answerWords,
+};
+use ddp::part::Outcome;
+use domain::Answer;
+use domain::Event;
+use rdmap::stream::CloseAnswer;
+use rdmap::stream::TakeAnswer;
+use rnic::Count;
+
+// A kind and up to five numbers.
+pub fn words(kind: u64, a: u64, b: u64, c: u64, d: u64, e: u64) -> [u64; 8]
+    ensures { λ r. ⌜ r ≡ wordsOf kind a b c d e ⌝ }
+{
+    [kind, a, b, c, d, e, 0, 0]
+}
+
+// What a call that is done or refused answers.
+pub fn outcome_words(outcome: Outcome) -> [u64; 8]
+    ensures { λ r. ⌜ r ≡ outcomeWords outcome ⌝ }
+{
+    match outcome {
+        Outcome::Done => words(1, 0, 0, 0, 0, 0),
+        Outcome::Refused(number) => words(0, number as u64, 0, 0, 0, 0),
+    }
+}
+
+// What closing a stream answers.
+pub fn close_words(answer: CloseAnswer) -> [u64; 8]
+    ensures { λ r. ⌜ r ≡ closeWords answer ⌝ }
+{
+    match answer {
+        CloseAnswer::Closed { buffers, reads } => words(2, buffers as u64, reads as u64, 0, 0, 0),
+        CloseAnswer::Refused(number) => words(0, number as u64, 0, 0, 0, 0),
+    }
+}
+
+// What taking a read answers.
+pub fn take_words(answer: TakeAnswer) -> [u64; 8]
+    ensures { λ r. ⌜ r ≡ takeWords answer ⌝ }
+{
+    match answer {
+        TakeAnswer::Read(read) => words(
+            3,
+            read.sink_stag as u64,
+            read.sink_to,
+            read.size as u64,
+            read.source_stag as u64,
+            read.source_to,
+        ),
+        TakeAnswer::Refused(number) => words(0, number as u64, 0, 0, 0, 0),
+    }
+}
+
+// What a question answers.
+pub fn count_words(count: Count) -> [u64; 8]
+    ensures { λ r. ⌜ r ≡ countWords count ⌝ }
+{
+    match count {
+        Count::Counted(n) => words(4, n as u64, 0, 0, 0, 0),
+        Count::Refused(number) => words(0, number as u64, 0, 0, 0, 0),
+    }
+}
+
+// What an FPDU that was taken reports.
+fn event_words(total: u64, event: Event) -> [u64; 8]
+    ensures { λ r. ⌜ r ≡ eventWords total event ⌝ }
+{
+    match event {
+        Event::NoEvent => words(6, total, 0, 0, 0, 0),
+        Event::Sent { start, len, opcode } => {
+            words(7, total, start as u64, len as u64, opcode as u64, 0)
+        }
+        Event::SentInvalidating {
+            start,
+            len,
+            opcode,
+            stag,
+        } => words(
+            8,
+            total,
+            start as u64,
+            len as u64,
+            opcode as u64,
+            stag as u64,
+        ),
+        Event::Terminated { layer, etype, code } => {
+            words(9, total, layer as u64, etype as u64, code as u64, 0)
+        }
+    }
+}
+
+// What receive answers.
+pub fn answer_words(answer: Answer) -> [u64; 8]
+    ensures { λ r. ⌜ r ≡ answerWords answer ⌝ }
+{
+    match answer {
+        Answer::Wait(n) => words(5, n as u64, 0, 0, 0, 0),
+        Answer::Taken { total, event } => event_words(total as u64, event),
+        Answer::Ended(refusal) => words(
+            10,
+            refusal.number as u64,
+            refusal.layer as u64,
+            refusal.etype as u64,
+            refusal.code as u64,
+            0,
+        ),
+        Answer::Refused(number) => words(0, number as u64, 0, 0, 0, 0),
+    }
+}
