@@ -16,8 +16,8 @@ ghost use Rattle.command.specs.Args.{flagOf, hexOf};
 // One more word than any command has.
 const MAX_WORDS: usize = 11;
 
-// As many places for numbers as the longest command, `open`, has words.
-const MAX_NUMBERS: usize = 10;
+// As many numbers as the longest command, `open`, has.
+const MAX_NUMBERS: usize = 9;
 
 // Where the first words of a line stand, each from its start up to, not with, its end, and how many
 // they are. A line with more words than a command has is as good as one with 11.
@@ -33,10 +33,10 @@ pub struct Hex {
     pub count: usize,
 }
 
-// The words of a command after its name as numbers, from place 1 on, if that is what they are.
+// The words of a command after its name as numbers, if that is what they are.
 pub struct Numbers {
     pub ok: bool,
-    pub values: [u64; 10],
+    pub values: [u64; 9],
 }
 
 // One of two words, as a flag.
@@ -99,13 +99,13 @@ fn number_at(line: &[u8], words: Words, count: usize, i: usize) -> Number {
 
 // The words after the first, where the line has `count` words and these are numbers.
 pub fn numbers_of(line: &[u8], words: Words, count: usize) -> Numbers {
-    let mut values = [0u64; 10];
+    let mut values = [0u64; 9];
     if words.count != count {
         return Numbers { ok: false, values };
     }
-    let mut i = 1;
+    let mut i = 0;
     while i < MAX_NUMBERS {
-        match number_at(line, words, count, i) {
+        match number_at(line, words, count, i + 1) {
             Number::Value(v) => {
                 values[i] = v;
                 i += 1;

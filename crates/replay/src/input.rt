@@ -1,9 +1,9 @@
 // The script's bytes, read in chunks and parted into lines.
+use super::run::State;
+use super::run::first_state;
 use super::run::run_line;
 use libc::STDERR_FILENO;
 use libc::STDIN_FILENO;
-use player::state::State;
-use player::state::first_state;
 use script::word::line_end;
 ghost use mathlib.Core.Path.{_≡_};
 ghost use lib.ListN.{length};

@@ -1,7 +1,7 @@
 // Runs a script of commands from standard input, and writes one line for each to standard output.
 //
 // `input` reads the script and parts it into lines, `run` runs one of them, `output` writes its answer.
-// What a line says and does is in the crate `player`. Nothing grows with the script: the store and
+// What a line asks is in the crate `request`, what a call is answered in `report`. Nothing grows with the script: the store and
 // every buffer stand in `main` and are lent from there.
 ghost use mathlib.Core.Path.{_≡_};
 ghost use lib.ListN.{length};

@@ -1,66 +1,35 @@
-// What a script's line is answered where it is a call of the device: one function for each kind of
-// answer, which puts it into a lent buffer and answers its length. Read `received` first.
+// What a script's line is answered where it is a call of the device: the words of the call's answer, as
+// specs/Words.antt of the crate `calls` has them, put as text into a lent buffer. Read `tell` first.
 use command::answer::first;
-use command::answer::refused;
 use command::answer::then_number;
-use command::answer::wait;
-use ddp::part::Outcome;
-use ddp::refusal::Refusal;
-use domain::Answer;
-use domain::Event;
-use rdmap::read::ReadRequest;
-use rdmap::stream::CloseAnswer;
-use rdmap::stream::TakeAnswer;
 use script::hex::put_byte_hex;
 use script::number::put_number;
 use script::put::put_word;
 ghost use Prim.Native.Nat.{_≤_};
 ghost use lib.ListN.{length};
 
-// The word of a call that is done, or its refusal.
-pub fn outcome(outcome: Outcome, word: &[u8], text: &mut [u8]) -> usize
+// Puts the answer's words from `from` up to, not with, `end`, each after a space, and answers the place
+// after them.
+fn then_words(answer: [u64; 8], from: usize, end: usize, text: &mut [u8], at: usize) -> usize
+    requires { ⌜ (end ≤ 8) × (at ≤ length (now text)) ⌝ }
     ensures { λ r. ⌜ r ≤ length (now (text .entry)) ⌝ }
 {
-    match outcome {
-        Outcome::Done => first(word, text),
-        Outcome::Refused(number) => refused(number, text),
+    let mut i = from;
+    let mut next = at;
+    while i < end {
+        next = then_number(answer[i], text, next);
+        i += 1;
     }
+    next
 }
 
-// `closed BUFFERS READS`, or the refusal.
-pub fn closed(answer: CloseAnswer, text: &mut [u8]) -> usize
+// A word, and then the answer's words up to `end`.
+fn told(word: &[u8], answer: [u64; 8], end: usize, text: &mut [u8]) -> usize
+    requires { ⌜ end ≤ 8 ⌝ }
     ensures { λ r. ⌜ r ≤ length (now (text .entry)) ⌝ }
 {
-    match answer {
-        CloseAnswer::Closed { buffers, reads } => {
-            let at = first(b"closed", text);
-            let next = then_number(buffers as u64, text, at);
-            then_number(reads as u64, text, next)
-        }
-        CloseAnswer::Refused(number) => refused(number, text),
-    }
-}
-
-// `read SINK-STAG SINK-TO SIZE SOURCE-STAG SOURCE-TO`.
-fn read(request: ReadRequest, text: &mut [u8]) -> usize
-    ensures { λ r. ⌜ r ≤ length (now (text .entry)) ⌝ }
-{
-    let at = first(b"read", text);
-    let after_stag = then_number(request.sink_stag as u64, text, at);
-    let after_to = then_number(request.sink_to, text, after_stag);
-    let after_size = then_number(request.size as u64, text, after_to);
-    let after_source = then_number(request.source_stag as u64, text, after_size);
-    then_number(request.source_to, text, after_source)
-}
-
-// The read that was taken, or the refusal.
-pub fn taken_read(answer: TakeAnswer, text: &mut [u8]) -> usize
-    ensures { λ r. ⌜ r ≤ length (now (text .entry)) ⌝ }
-{
-    match answer {
-        TakeAnswer::Read(request) => read(request, text),
-        TakeAnswer::Refused(number) => refused(number, text),
-    }
+    let at = first(word, text);
+    then_words(answer, 1, end, text, at)
 }
 
 // Puts a space and a word, and answers the place after them.
@@ -72,74 +41,46 @@ fn then_word(word: &[u8], text: &mut [u8], at: usize) -> usize
     put_word(word, text, next)
 }
 
-// Puts `send START LENGTH OPCODE`, and answers the place after it.
-fn then_send(start: u32, len: u32, opcode: u8, text: &mut [u8], at: usize) -> usize
-    requires { ⌜ at ≤ length (now text) ⌝ }
+// Puts a space, a word and some of the answer's words, and answers the place after them.
+fn then_event(
+    word: &[u8],
+    answer: [u64; 8],
+    from: usize,
+    end: usize,
+    text: &mut [u8],
+    at: usize,
+) -> usize
+    requires { ⌜ (end ≤ 8) × (at ≤ length (now text)) ⌝ }
     ensures { λ r. ⌜ r ≤ length (now (text .entry)) ⌝ }
 {
-    let after_word = then_word(b"send", text, at);
-    let after_start = then_number(start as u64, text, after_word);
-    let after_len = then_number(len as u64, text, after_start);
-    then_number(opcode as u64, text, after_len)
+    let next = then_word(word, text, at);
+    then_words(answer, from, end, text, next)
 }
 
-// Puts `stag STAG`, and answers the place after it.
-fn then_stag(stag: u32, text: &mut [u8], at: usize) -> usize
-    requires { ⌜ at ≤ length (now text) ⌝ }
+// `taken TOTAL` with what the FPDU reports, by the kind: 6 nothing, 7 a Send, 8 a Send that
+// invalidated an STag, else a Terminate.
+fn taken(kind: u64, answer: [u64; 8], text: &mut [u8]) -> usize
     ensures { λ r. ⌜ r ≤ length (now (text .entry)) ⌝ }
 {
-    let after_word = then_word(b"stag", text, at);
-    then_number(stag as u64, text, after_word)
-}
-
-// Puts `terminate LAYER TYPE CODE`, and answers the place after it.
-fn then_terminate(layer: u8, etype: u8, code: u8, text: &mut [u8], at: usize) -> usize
-    requires { ⌜ at ≤ length (now text) ⌝ }
-    ensures { λ r. ⌜ r ≤ length (now (text .entry)) ⌝ }
-{
-    let after_word = then_word(b"terminate", text, at);
-    let after_layer = then_number(layer as u64, text, after_word);
-    let after_type = then_number(etype as u64, text, after_layer);
-    then_number(code as u64, text, after_type)
-}
-
-// Puts what a taken FPDU reports, and answers the place after it.
-fn then_event(event: Event, text: &mut [u8], at: usize) -> usize
-    requires { ⌜ at ≤ length (now text) ⌝ }
-    ensures { λ r. ⌜ r ≤ length (now (text .entry)) ⌝ }
-{
-    match event {
-        Event::NoEvent => at,
-        Event::Sent { start, len, opcode } => then_send(start, len, opcode, text, at),
-        Event::SentInvalidating {
-            start,
-            len,
-            opcode,
-            stag,
-        } => {
-            let next = then_send(start, len, opcode, text, at);
-            then_stag(stag, text, next)
+    let at = told(b"taken", answer, 2, text);
+    match kind {
+        6 => at,
+        7 => then_event(b"send", answer, 2, 5, text, at),
+        8 => {
+            let next = then_event(b"send", answer, 2, 5, text, at);
+            then_event(b"stag", answer, 5, 6, text, next)
         }
-        Event::Terminated { layer, etype, code } => then_terminate(layer, etype, code, text, at),
+        _ => then_event(b"terminate", answer, 2, 5, text, at),
     }
 }
 
-// `taken TOTAL`, with what the FPDU reports.
-fn taken(total: usize, event: Event, text: &mut [u8]) -> usize
-    ensures { λ r. ⌜ r ≤ length (now (text .entry)) ⌝ }
-{
-    let at = first(b"taken", text);
-    let next = then_number(total as u64, text, at);
-    then_event(event, text, next)
-}
-
 // Puts `/` and a number, and answers the place after them.
-fn then_part(v: u8, text: &mut [u8], at: usize) -> usize
+fn then_part(v: u64, text: &mut [u8], at: usize) -> usize
     requires { ⌜ at ≤ length (now text) ⌝ }
     ensures { λ r. ⌜ r ≤ length (now (text .entry)) ⌝ }
 {
     let next = put_word(b"/", text, at);
-    put_number(v as u64, text, next)
+    put_number(v, text, next)
 }
 
 // Puts `/` and a code, and answers the place after them.
@@ -152,23 +93,48 @@ fn then_code(v: u8, text: &mut [u8], at: usize) -> usize
 }
 
 // `refused NUMBER LAYER/TYPE/CODE`: a refusal of the peer's bytes.
-fn ended(refusal: Refusal, text: &mut [u8]) -> usize
+fn ended(answer: [u64; 8], text: &mut [u8]) -> usize
     ensures { λ r. ⌜ r ≤ length (now (text .entry)) ⌝ }
 {
-    let at = refused(refusal.number, text);
-    let after_layer = then_number(refusal.layer as u64, text, at);
-    let after_type = then_part(refusal.etype, text, after_layer);
-    then_code(refusal.code, text, after_type)
+    let at = told(b"refused", answer, 3, text);
+    let next = then_part(answer[3], text, at);
+    then_code((answer[4] % 256) as u8, text, next)
 }
 
-// What receive answers.
-pub fn received(answer: Answer, text: &mut [u8]) -> usize
+// `opened` or `done`.
+fn done(number: u64, text: &mut [u8]) -> usize
     ensures { λ r. ⌜ r ≤ length (now (text .entry)) ⌝ }
 {
-    match answer {
-        Answer::Wait(n) => wait(n, text),
-        Answer::Taken { total, event } => taken(total, event, text),
-        Answer::Ended(refusal) => ended(refusal, text),
-        Answer::Refused(number) => refused(number, text),
+    if number == 0 {
+        return first(b"opened", text);
+    }
+    first(b"done", text)
+}
+
+// `live COUNT` or `free SLOT`.
+fn counted(number: u64, answer: [u64; 8], text: &mut [u8]) -> usize
+    ensures { λ r. ⌜ r ≤ length (now (text .entry)) ⌝ }
+{
+    if number == 7 {
+        return told(b"live", answer, 2, text);
+    }
+    told(b"free", answer, 2, text)
+}
+
+// What the call of a number is answered, of its answer's words; the first word is the kind. `open`
+// alone is `opened` where the others are `done`, and a count is `live` or `free`.
+pub fn tell(number: u64, answer: [u64; 8], text: &mut [u8]) -> usize
+    ensures { λ r. ⌜ r ≤ length (now (text .entry)) ⌝ }
+{
+    let kind = answer[0];
+    match kind {
+        0 => told(b"refused", answer, 2, text),
+        1 => done(number, text),
+        2 => told(b"closed", answer, 3, text),
+        3 => told(b"read", answer, 6, text),
+        4 => counted(number, answer, text),
+        5 => told(b"wait", answer, 2, text),
+        10 => ended(answer, text),
+        _ => taken(kind, answer, text),
     }
 }

@@ -7,16 +7,19 @@ use Rattle.command.proofs.args.numbers_of.Statement.{statement}
 use Rattle.command.proofs.args.numbers_of.Tie as tie
 
 abbrev Inv-loop : tie.InvT-loop
-Inv-loop line words count values₀ i₀ values i = length values ≡ 10
+Inv-loop line words count values₀ i₀ values i = length values ≡ 9
 
 abbrev μ-loop : tie.MeasureT-loop
-μ-loop line words count values₀ i₀ values i = 10 - i
+μ-loop line words count values₀ i₀ values i = 9 - i
 
 returns : tie.Need-returns Inv-loop μ-loop
 returns c = search needs
 
 loop-holds : tie.Need-loop-holds Inv-loop μ-loop
 loop-holds c = search needs
+
+add-number-at : tie.Need-add-number-at Inv-loop μ-loop
+add-number-at c = search needs
 
 number-at-requires : tie.Need-number-at-requires Inv-loop μ-loop
 number-at-requires c κs = search needs
@@ -56,6 +59,7 @@ numbers-of-spec =
     μ-loop
     returns
     loop-holds
+    add-number-at
     number-at-requires
     enum-known-v
     mul-values

@@ -16,8 +16,8 @@ pub fn bytes(n: Numbers, store: &[u8], text: &mut [u8]) -> usize
     ensures { λ r. ⌜ r ≤ length (now (text .entry)) ⌝ }
 {
     if n.ok {
-        let start = n.values[1] as usize;
-        let size = n.values[2] as usize;
+        let start = n.values[0] as usize;
+        let size = n.values[1] as usize;
         if start <= store.len() {
             if size <= store.len() - start {
                 let at = first(b"bytes", text);

@@ -7,8 +7,8 @@ use native.Mathlib.Omega.{arith}
 use lib.Dec.{eqb}
 use lib.ListN.{length, getD}
 use borrow.Author.Needs.{needs}
-use Rattle.player.proofs.line.is_comment.Statement.{statement}
-use Rattle.player.proofs.line.is_comment.Tie as tie
+use Rattle.request.proofs.is_comment.Statement.{statement}
+use Rattle.request.proofs.is_comment.Tie as tie
 
 none : (l : List ℕ) → length l ≡ 0 → false ≡ eqb (getD l 0 0) 35
 none [] h = refl

@@ -1,0 +1,136 @@
+// What a line of a script asks: it is answered at once, as the commands on frames and on the store's
+// bytes are, or it is a call of the device, by its number. The device is not here.
+//
+// Read `Asked` first, then `ask`. `call` makes a call of a line's words, `shape` says which call a
+// name stands for, `store` shows and sets the store's bytes. A line's words, and the commands on
+// frames, are in the crate `command`.
+use crate::call::ask_call;
+use command::answer::bad;
+use command::args::Words;
+use command::args::numbers_of;
+use command::args::split;
+use command::args::word;
+use command::frames;
+use wire::copy::same;
+ghost use mathlib.Core.Path.{_≡_};
+ghost use Prim.Native.Nat.{_≤_};
+ghost use lib.ListN.{length, getD};
+ghost use lib.Dec.{eqb};
+
+mod call;
+mod shape;
+mod store;
+
+// What a line asks. Where `call` is not set it is answered already, by the first `count` bytes of the
+// text, or by nothing where that is 0. Else it is the call `number` of the crate `calls` with these
+// numbers, the first `size` of the buffer's bytes and the first `lent` of the store's; `kept` is what
+// is lent from then on by a line that does not say.
+pub struct Asked {
+    pub call: bool,
+    pub count: usize,
+    pub number: u64,
+    pub numbers: [u64; 9],
+    pub size: usize,
+    pub lent: u64,
+    pub kept: u64,
+}
+
+// A line that is answered by `count` bytes.
+pub(crate) fn answered(count: usize) -> Asked
+    ensures { λ r. ⌜ r .count ≡ count ⌝ }
+{
+    Asked {
+        call: false,
+        count,
+        number: 0,
+        numbers: [0; 9],
+        size: 0,
+        lent: 0,
+        kept: 0,
+    }
+}
+
+// Whether a line starts with `#`.
+fn is_comment(line: &[u8]) -> bool
+    ensures { λ r. ⌜ r ≡ eqb (getD (now (line .entry)) 0 0) 35 ⌝ }
+{
+    if line.len() == 0 {
+        return false;
+    }
+    line[0] == b'#'
+}
+
+// A command on the store's bytes, or a call; a line that is neither is `bad`.
+fn ask_device(
+    line: &[u8],
+    words: Words,
+    kept: u64,
+    bytes: &mut [u8],
+    store: &mut [u8],
+    text: &mut [u8],
+) -> Asked
+    ensures { λ r. ⌜ r .count ≤ length (now (text .entry)) ⌝ }
+{
+    let name = word(line, words, 0);
+    if same(name, b"bytes") {
+        return answered(store::bytes(numbers_of(line, words, 3), store, text));
+    }
+    if same(name, b"fill") {
+        return answered(store::fill(line, words, bytes, store, text));
+    }
+    let asked = ask_call(line, words, kept, bytes, store.len());
+    if asked.call {
+        return asked;
+    }
+    answered(bad(text))
+}
+
+// A command on frames, or the line is handed on.
+fn ask_words(
+    line: &[u8],
+    words: Words,
+    kept: u64,
+    bytes: &mut [u8],
+    frame: &mut [u8],
+    store: &mut [u8],
+    text: &mut [u8],
+) -> Asked
+    ensures { λ r. ⌜ r .count ≤ length (now (text .entry)) ⌝ }
+{
+    let name = word(line, words, 0);
+    if same(name, b"fpdu") {
+        return answered(frames::fpdu(line, words, bytes, frame, text));
+    }
+    if same(name, b"unframe") {
+        return answered(frames::unframe(line, words, bytes, text));
+    }
+    if same(name, b"startup") {
+        return answered(frames::startup(line, words, bytes, frame, text));
+    }
+    if same(name, b"unstartup") {
+        return answered(frames::unstartup(line, words, bytes, text));
+    }
+    ask_device(line, words, kept, bytes, store, text)
+}
+
+// What a line asks, where `kept` bytes are lent by one that does not say; a comment, and a line
+// without words, are answered by nothing.
+pub fn ask(
+    line: &[u8],
+    kept: u64,
+    bytes: &mut [u8],
+    frame: &mut [u8],
+    store: &mut [u8],
+    text: &mut [u8],
+) -> Asked
+    ensures { λ r. ⌜ r .count ≤ length (now (text .entry)) ⌝ }
+{
+    if is_comment(line) {
+        return answered(0);
+    }
+    let words = split(line);
+    if words.count == 0 {
+        return answered(0);
+    }
+    ask_words(line, words, kept, bytes, frame, store, text)
+}
