@@ -1,2 +1,1 @@
 pub mod Rnic
-pub mod Book

@@ -22,17 +22,17 @@ use Rattle.ddp.specs.declared.part.Outcome.the-variants.{Done, Refused as NotDo
 use Rattle.domain.specs.Domain.{newDomain, domainOpened, domainClosed, domainPosted, domainTaken, domainRegistered, domainDropped, domainReceived, domainReceivedBytes}
 use Rattle.domain.specs.declared.Answer.the-variants.{Refused}
 use Rattle.domain.specs.declared.Domain.{Domain}
 use Rattle.rnic.specs.Rnic.{noDomain, domainAt, withDomain, bytesOf, withBytes, partFits, inOrder, newRnic, emptyRnic, openedRnic, rnicOpened, rnicClosed, rnicPosted, rnicTaken, rnicRegistered, rnicDropped, rnicReceived, rnicReceivedStore, receivedOwned, receivedOwnedStore, rnicLive, rnicFree}
 use Rattle.rnic.specs.declared.Rnic.{Rnic}
 use Rattle.rnic.specs.declared.RnicDone.{RnicDone}
 use Rattle.rnic.specs.declared.Count.the-variants.{Counted}
-use Rattle.rnic.specs.Book.{Call, Answer, View, Seen, Opening, owner, entered, heard, book, booked, mine, opens, firstBytes, firstView}
-use Rattle.rnic.proofs.Calls.{World, Step, Run, Opened, view, saw, accepted}
-use Rattle.rnic.specs.Book.Call.{openStream, closeStream, register, dropWindow, post, receive, takeRead, live, free}
-use Rattle.rnic.specs.Book.Answer.{done, closed, received, taken, counted}
-use Rattle.rnic.proofs.Calls.Run.{stop, next}
-use Rattle.rnic.proofs.Parts.{mid-self, mid-before, mid-after}
-use Rattle.rnic.proofs.Kept.{opened-keeps, closed-keeps, posted-keeps, taken-keeps, registered-keeps, dropped-keeps, received-keeps, received-many}
+use Rattle.isolation.specs.Book.{Call, Answer, View, Seen, Opening, owner, entered, heard, book, booked, mine, opens, firstBytes, firstView}
+use Rattle.isolation.proofs.Calls.{World, Step, Run, Opened, view, saw, accepted}
+use Rattle.isolation.specs.Book.Call.{openStream, closeStream, register, dropWindow, post, receive, takeRead, live, free}
+use Rattle.isolation.specs.Book.Answer.{done, closed, received, taken, counted}
+use Rattle.isolation.proofs.Calls.Run.{stop, next}
+use Rattle.isolation.proofs.Parts.{mid-self, mid-before, mid-after}
+use Rattle.isolation.proofs.Kept.{opened-keeps, closed-keeps, posted-keeps, taken-keeps, registered-keeps, dropped-keeps, received-keeps, received-many}
 
 -- what every step keeps: four domains, whose parts stand in order within a store of the device's length
 pub record Fit (w : World) : Type 0 where

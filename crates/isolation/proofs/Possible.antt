@@ -6,12 +6,12 @@ use mathlib.Core.List.{List, [], _∷_}
 use native.Mathlib.Decide.{ℕ-discrete as decEq}
 use lib.ListN.{length, replicate, length-replicate}
 use denote.Ref.{RefT}
 use Rattle.rnic.specs.Rnic.{openedRnic, rnicOpened, rnicClosed, rnicPosted, rnicTaken, rnicRegistered, rnicDropped, rnicReceived, rnicReceivedStore, rnicLive, rnicFree}
-use Rattle.rnic.specs.Book.{Call, Answer, Opening}
-use Rattle.rnic.proofs.Calls.{World, Step, Run, Opened}
-use Rattle.rnic.specs.Book.Call.{openStream, closeStream, register, dropWindow, post, receive, takeRead, live, free}
-use Rattle.rnic.proofs.Calls.Run.{stop, next}
-use Rattle.rnic.proofs.Isolation.{Fit, step-fit, opened-fit}
+use Rattle.isolation.specs.Book.{Call, Answer, Opening}
+use Rattle.isolation.proofs.Calls.{World, Step, Run, Opened}
+use Rattle.isolation.specs.Book.Call.{openStream, closeStream, register, dropWindow, post, receive, takeRead, live, free}
+use Rattle.isolation.proofs.Calls.Run.{stop, next}
+use Rattle.isolation.proofs.Isolation.{Fit, step-fit, opened-fit}
 
 -- a reference to a slice
 abbrev slice : List ℕ → RefT (List ℕ)

@@ -11,26 +11,26 @@ use contract.Lifetimes.{Lfts}
 use Rattle.wire.specs.Wire.{pick}
 use Rattle.ddp.specs.declared.part.Outcome.{Outcome}
 use Rattle.ddp.specs.declared.part.Outcome.the-variants.{Done, Refused as NotDone}
 use Rattle.rnic.specs.Rnic.{domainAt, bytesOf}
-use Rattle.rnic.specs.Book.{Call, Answer, View, Seen, Opening, owner}
-use Rattle.rnic.specs.Book.Call.{openStream, closeStream, register, dropWindow, post, receive, takeRead, live, free}
-use Rattle.rnic.specs.Book.Answer.{done, closed, received, taken, counted}
+use Rattle.isolation.specs.Book.{Call, Answer, View, Seen, Opening, owner}
+use Rattle.isolation.specs.Book.Call.{openStream, closeStream, register, dropWindow, post, receive, takeRead, live, free}
+use Rattle.isolation.specs.Book.Answer.{done, closed, received, taken, counted}
 use Rattle.rnic.specs.declared.Rnic.{Rnic}
 use Rattle.rnic.specs.declared.RnicDone.{RnicDone}
 use Rattle.rnic.specs.declared.RnicClosed.{RnicClosed}
 use Rattle.rnic.specs.declared.RnicTaken.{RnicTaken}
 use Rattle.rnic.specs.declared.RnicReceived.{RnicReceived}
 use Rattle.rnic.specs.declared.Count.{Count}
 use Rattle.rnic.proofs.open.Reads as open-reads
 use Rattle.rnic.proofs.open_stream.Reads as open-stream-reads
 use Rattle.rnic.proofs.close_stream.Reads as close-stream-reads
 use Rattle.rnic.proofs.register.Reads as register-reads
 use Rattle.rnic.proofs.drop_window.Reads as drop-window-reads
 use Rattle.rnic.proofs.post.Reads as post-reads
 use Rattle.rnic.proofs.receive.Reads as receive-reads
 use Rattle.rnic.proofs.take.Reads as take-reads
 use Rattle.rnic.proofs.live_count.Reads as live-count-reads
 use Rattle.rnic.proofs.lowest_free.Reads as lowest-free-reads
 
 -- the device, and the store of which it was opened
 pub record World : Type 0 where

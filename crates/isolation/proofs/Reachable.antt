@@ -61,12 +61,12 @@ use Rattle.domain.specs.declared.DomainClosed.{DomainClosed}
 use Rattle.domain.specs.declared.DomainTaken.{DomainTaken}
 use Rattle.domain.specs.declared.Received.{Received}
 use Rattle.domain.proofs.Inside.{inside}
 use Rattle.rnic.specs.Rnic.{domainAt, bytesOf, partFits}
-use Rattle.rnic.specs.Book.{Call, Answer, View, Seen, Opening, owner, heard, book, startOf, endOf}
-use Rattle.rnic.proofs.Calls.{World, Step, Run, Opened, view}
-use Rattle.rnic.specs.Book.Call.{openStream, closeStream, register, dropWindow, post, receive, takeRead, live, free}
-use Rattle.rnic.proofs.Calls.Run.{stop, next}
-use Rattle.rnic.proofs.Isolation.{Fit, part-fits, step-fit, own, alien, run-fit, opened-fit, opened-view}
+use Rattle.isolation.specs.Book.{Call, Answer, View, Seen, Opening, owner, heard, book, startOf, endOf}
+use Rattle.isolation.proofs.Calls.{World, Step, Run, Opened, view}
+use Rattle.isolation.specs.Book.Call.{openStream, closeStream, register, dropWindow, post, receive, takeRead, live, free}
+use Rattle.isolation.proofs.Calls.Run.{stop, next}
+use Rattle.isolation.proofs.Isolation.{Fit, part-fits, step-fit, own, alien, run-fit, opened-fit, opened-view}
 
 -- the buffers that wait, of eight entries, lie in a part
 pub record Waits (p : Part) (bs : Buffers) : Type 0 where
