@@ -2,11 +2,11 @@
 // value. It answers that stream after it, and the window that a Send invalidated, so that a caller
 // who holds a domain in place copies neither its other streams nor the whole of it.
 //
-// Read `PartsReceived` first, then `receive_parts`. The definitions are in specs/Parts.antt; that a
-// domain's receive is this one, lifted, is the law of proofs/Lift.antt.
+// Read `PartsReceived` first, then `receive_parts`. The definitions are in specs/Parts.antt; a domain's
+// receive is defined by them.
 ghost use mathlib.Core.Path.{_≡_};
-ghost use Rattle.domain.specs.Domain.{sentEvent};
 ghost use Rattle.domain.specs.Parts.{
+  sentEvent,
   partsTaken,
   partsApplied,
   partsJudged,
@@ -14,6 +14,7 @@ ghost use Rattle.domain.specs.Parts.{
   partsUnchanged,
   partsReceived,
   partsReceivedBytes,
+  killed,
 };
 ghost use Rattle.ddp.specs.Segment.{segmentRead};
 use crate::Answer;
@@ -174,5 +175,18 @@ pub fn receive_parts(
             Judged::Fpdu(total, verdict) => apply(s, total, verdict),
         },
         Readiness::NotReady(refusal) => unchanged(s, Answer::Refused(refusal)),
+    }
+}
+
+// The windows with the one dead whose STag a Send invalidated.
+pub fn kill(windows: [Window; 16], which: Invalidate) -> [Window; 16]
+    ensures { λ r. ⌜ r ≡ killed which windows ⌝ }
+{
+    match which {
+        Invalidate::NoStag => windows,
+        Invalidate::Stag { slot, stag: _ } => {
+            let done = ddp::window::drop_window(windows, slot as u64);
+            done.windows
+        }
     }
 }

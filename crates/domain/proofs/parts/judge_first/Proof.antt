@@ -15,8 +15,7 @@ use Rattle.ddp.specs.declared.segment.SegmentRead.{SegmentRead}
 use Rattle.rdmap.specs.declared.stream.Stream.{Stream}
 use Rattle.rdmap.specs.Message.{queuesOf, untaggedVerdict}
 use Rattle.rdmap.specs.declared.message.Verdict.{Verdict}
-use Rattle.domain.specs.Domain.{appliedBytes}
-use Rattle.domain.specs.Parts.{partsJudged, partsPlaced}
+use Rattle.domain.specs.Parts.{appliedBytes, partsJudged, partsPlaced}
 use Rattle.domain.specs.declared.parts.Judged.{Judged}
 use Rattle.domain.specs.declared.parts.Judged.the-variants.{Fpdu}
 use Rattle.domain.proofs.Inside.{inside}
