@@ -5,12 +5,13 @@ use mathlib.Core.List.{List}
 use lib.ListN.{length, set}
 use lib.Dec.{leb}
 use Rattle.wire.specs.Wire.{pick, part}
-use Rattle.ddp.specs.Window.{dropped}
+use Rattle.ddp.specs.Window.{windowAt, dropped, slotNamed}
 use Rattle.ddp.specs.Tagged.{taggedOf}
 use Rattle.ddp.specs.Untagged.{untaggedOf}
 use Rattle.ddp.specs.Place.{placed}
 use Rattle.ddp.specs.Segment.{segmentRead}
 use Rattle.ddp.specs.declared.part.Part.{Part}
+use Rattle.ddp.specs.declared.header.TaggedHeader.{TaggedHeader}
 use Rattle.ddp.specs.declared.segment.SegmentRead.{SegmentRead}
 use Rattle.ddp.specs.declared.segment.SegmentRead.the-variants.{Wait as SegmentWait, Refused as SegmentRefused, Tagged as TaggedSegment, Untagged as UntaggedSegment}
 use Rattle.ddp.specs.declared.window.Window.{Window}
@@ -65,12 +66,16 @@ appliedBytes start (SendLast at opcode from len inv) payload bytes = placedFrom 
 appliedBytes start (Read r) payload bytes = bytes
 appliedBytes start (Terminate layer etype code) payload bytes = bytes
 
+-- what a tagged segment of a header and a payload of len bytes is judged to be, by the window in the slot that its STag names
+abbrev pub taggedVerdict : Window → ℕ → TaggedHeader → ℕ → Verdict
+taggedVerdict w number h len = writeVerdict w (h .control) (taggedOf w number (h .stag) (h .to) len)
+
 -- what the segment is judged to be
 abbrev pub partsVerdict : List Window → ℕ → Stream → List ℕ → SegmentRead → Verdict
 partsVerdict ws number s input (SegmentWait n) = Nothing
 partsVerdict ws number s input (SegmentRefused r) = VerdictRefused r
 partsVerdict ws number s input (TaggedSegment total h start len) =
-    writeVerdict ws (h .control) (taggedOf ws number (h .stag) (h .to) len)
+    taggedVerdict (windowAt ws (slotNamed (h .stag))) number h len
 partsVerdict ws number s input (UntaggedSegment total h start len) =
     untaggedVerdict ws number s h (part input start len) (untaggedOf (queuesOf s) (h .qn) (h .msn) (h .mo) (length (part input start len)))
 

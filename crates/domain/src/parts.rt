@@ -24,6 +24,7 @@ use ddp::part::Part;
 use ddp::segment::SegmentRead;
 use ddp::segment::read_segment;
 use ddp::window::Window;
+use ddp::window::slot_named;
 use rdmap::message::Invalidate;
 use rdmap::message::Verdict;
 use rdmap::message::judge_tagged_segment;
@@ -128,7 +129,8 @@ fn judge_first(
             len,
         } => {
             let end = start + len;
-            let verdict = judge_tagged_segment(windows, number, header, len as u64);
+            let w = windows[slot_named(header.stag)];
+            let verdict = judge_tagged_segment(w, number, header, len as u64);
             place_by(store, part.start, verdict, &bytes[start..end]);
             Judged::Fpdu(total, verdict)
         }

@@ -14,7 +14,7 @@ use borrow.Rule.Slice.PartMut.{mid-len}
 use Rattle.wire.specs.Wire.{pick, both, part, put}
 use Rattle.wire.proofs.Laws.{length-part}
 use Rattle.ddp.specs.Part.{inPart}
-use Rattle.ddp.specs.Window.{noWindow, windowAt, found, spanned}
+use Rattle.ddp.specs.Window.{noWindow, windowAt, slotNamed, found, spanned}
 use Rattle.ddp.specs.Buffer.{noBuffer, posted, poppedOf}
 use Rattle.ddp.specs.Tagged.{taggedOf}
 use Rattle.ddp.specs.Untagged.{untaggedIn, untaggedOf}
@@ -37,7 +37,7 @@ use Rattle.ddp.specs.declared.window.Found.{Found}
 use Rattle.ddp.specs.declared.window.Found.the-variants.{Slot, Foreign, Missing}
 use Rattle.ddp.specs.declared.window.Span.{Span}
 use Rattle.ddp.specs.declared.window.Span.the-variants.{Inside, Wrap, Outside}
-use Rattle.ddp.proofs.Inside.{Lies, WindowsIn, BuffersIn, registered-in, dropped-in, tagged-in, posted-in, popped-in}
+use Rattle.ddp.proofs.Inside.{Lies, WindowIn, WindowsIn, BuffersIn, registered-in, dropped-in, tagged-in, posted-in, popped-in}
 use Rattle.rdmap.specs.Message.{opcodeOf, controlled, after, mayWrite, mayRead, writeVerdict, fitsQueue, takesStag, invalidated, sendVerdict, sourceIn, sourceOf, readVerdict, terminateVerdict, messageVerdict, queuesOf, untaggedVerdict}
 use Rattle.rdmap.specs.Read.{requestAt}
 use Rattle.rdmap.specs.Refusal.{noWriteRight, noReadRight, malformed}
@@ -56,7 +56,7 @@ use Rattle.rdmap.specs.declared.stream.StreamDone.{StreamDone}
 use Rattle.rdmap.specs.declared.stream.StreamClosed.{StreamClosed}
 use Rattle.rdmap.specs.declared.stream.StreamTaken.{StreamTaken}
 use Rattle.domain.specs.Domain.{noStream, streamAt, withStream, withWindows, newDomain, domainOpened, domainClosed, domainPosted, domainTaken, domainRegistered, domainDropped, domainReceived, domainReceivedBytes}
-use Rattle.domain.specs.Parts.{appliedBytes, placedFrom, partsApplied, partsVerdict, partsJudged, partsPlaced, partsAnswered, partsWhen, partsBytesWhen, partsReceived, partsReceivedBytes, killed, lifted}
+use Rattle.domain.specs.Parts.{appliedBytes, placedFrom, partsApplied, taggedVerdict, partsVerdict, partsJudged, partsPlaced, partsAnswered, partsWhen, partsBytesWhen, partsReceived, partsReceivedBytes, killed, lifted}
 use Rattle.domain.specs.declared.Domain.{Domain}
 use Rattle.domain.specs.declared.DomainDone.{DomainDone}
 use Rattle.domain.specs.declared.DomainClosed.{DomainClosed}
@@ -375,13 +375,13 @@ module _ (p : Part) (n : ℕ) where
   after-lands (ControlRefused r) v l = tt
 
   write-lands :
-      (ws : List Window) (number stag to control : ℕ) → WindowsIn p ws →
-      (t : Tagged) → taggedOf ws number stag to n ≡ t → Lands p (writeVerdict ws control t) n
-  write-lands ws number stag to control all (TaggedRefused r) e = tt
-  write-lands ws number stag to control all Nowhere e = after-lands (controlled control (eqb (opcodeOf control) 0)) Nothing tt
-  write-lands ws number stag to control all (TaggedAt slot place) e =
-      after-lands (controlled control (eqb (opcodeOf control) 0)) (pick (mayWrite (windowAt ws slot)) (Write place) (VerdictRefused noWriteRight))
-      (pick-lands (mayWrite (windowAt ws slot)) (Write place) (VerdictRefused noWriteRight) (tagged-in p ws number stag to n slot place all e) tt)
+      (w : Window) (number stag to control : ℕ) → WindowIn p w →
+      (t : Tagged) → taggedOf w number stag to n ≡ t → Lands p (writeVerdict w control t) n
+  write-lands w number stag to control one (TaggedRefused r) e = tt
+  write-lands w number stag to control one Nowhere e = after-lands (controlled control (eqb (opcodeOf control) 0)) Nothing tt
+  write-lands w number stag to control one (TaggedAt place) e =
+      after-lands (controlled control (eqb (opcodeOf control) 0)) (pick (mayWrite w) (Write place) (VerdictRefused noWriteRight))
+      (pick-lands (mayWrite w) (Write place) (VerdictRefused noWriteRight) (tagged-in p w number stag to n place one e) tt)
 
   invalidated-lands : (b : Buffer) (opcode start end stag : ℕ) → Lies p (b .start + start) n → (f : Found) → Lands p (invalidated b opcode start end stag f) n
   invalidated-lands b opcode start end stag l Foreign = tt
@@ -484,9 +484,10 @@ module _ (d : Domain) (k : Sound d) (number slot : ℕ) (h : slot < 4) (input : 
   judged-lands (Wait n) e = tt
   judged-lands (SegmentRefused r) e = tt
   judged-lands (TaggedSegment total t start len) e =
-      subst (Lands (d .part) (writeVerdict (d .windows) (t .control) (taggedOf (d .windows) number (t .stag) (t .to) len)))
+      let w = windowAt (d .windows) (slotNamed (t .stag)) in
+      subst (Lands (d .part) (taggedVerdict w number t len))
       (sym (length-part input start len (inside (streamAt d slot .crc) input (TaggedSegment total t start len) e)))
-      (write-lands (d .part) len (d .windows) number (t .stag) (t .to) (t .control) (k .windowed) (taggedOf (d .windows) number (t .stag) (t .to) len) refl)
+      (write-lands (d .part) len w number (t .stag) (t .to) (t .control) (k .windowed (slotNamed (t .stag))) (taggedOf w number (t .stag) (t .to) len) refl)
   judged-lands (UntaggedSegment total t start len) e =
       untagged-lands (d .part) (length (part input start len)) (d .windows) number (streamAt d slot) (k .waiting slot h .inside) t (part input start len)
       (untaggedOf (queuesOf (streamAt d slot)) (t .qn) (t .msn) (t .mo) (length (part input start len))) refl
