@@ -12,7 +12,7 @@ use lib.Dec.{leb, ltb, eqb}
 use borrow.Author.Tests.{leb-true, ltb-true, eqb-false}
 use Rattle.wire.specs.Wire.{pick, both}
 use Rattle.ddp.specs.Part.{inPart}
-use Rattle.ddp.specs.Window.{noWindow, windowAt, inRange, windowFits, refusing, entering, registered, deadOf, dropped, named, found, wraps, within, spanned}
+use Rattle.ddp.specs.Window.{noWindow, windowAt, inRange, windowFits, refusing, entering, registered, deadOf, dropped, named, slotNamed, foundIn, wraps, within, spanned}
 use Rattle.ddp.specs.Buffer.{noBuffer, appended, posted, firstOf, poppedOf}
 use Rattle.ddp.specs.Tagged.{taggedIn, taggedAt, taggedOf}
 use Rattle.ddp.specs.declared.part.Part.{Part}
@@ -108,42 +108,39 @@ named-live : (w : Window) (key : ℕ) → named w key ≡ true → w .live ≡ t
 unfolding named
 named-live w key e = both-left (w .live) (eqb key (w .key)) e
 
-found-live : (ws : List Window) (domain stag slot : ℕ) → found ws domain stag ≡ Slot slot → windowAt ws slot .live ≡ true
-unfolding found
-found-live ws domain stag slot e =
-    go (leb (stag / 256) 63) (eqb (stag / 256 / 16) domain) (named (windowAt ws (stag / 256 % 16)) (stag % 256)) refl e
+found-live : (w : Window) (domain stag slot : ℕ) → foundIn w domain stag ≡ Slot slot → w .live ≡ true
+unfolding foundIn
+found-live w domain stag slot e = go (leb (stag / 256) 63) (eqb (stag / 256 / 16) domain) (named w (stag % 256)) refl e
   where
     go :
-        (a b c : Bool) → named (windowAt ws (stag / 256 % 16)) (stag % 256) ≡ c →
-        pick a (pick b (pick c (Slot (stag / 256 % 16)) Missing) Foreign) Missing ≡ Slot slot → windowAt ws slot .live ≡ true
+        (a b c : Bool) → named w (stag % 256) ≡ c →
+        pick a (pick b (pick c (Slot (slotNamed stag)) Missing) Foreign) Missing ≡ Slot slot → w .live ≡ true
     go false b c q e = cc
     go true false c q e = cc
     go true true false q e = cc
-    go true true true q e =
-        let same : stag / 256 % 16 ≡ slot = cc in
-        subst (λ (n : ℕ). windowAt ws n .live ≡ true) same (named-live (windowAt ws (stag / 256 % 16)) (stag % 256) q)
+    go true true true q e = named-live w (stag % 256) q
 
 -- a payload that is judged to go somewhere goes into the part
 pub tagged-in :
-    (p : Part) (ws : List Window) (domain stag to len slot at : ℕ) → WindowsIn p ws →
-    taggedOf ws domain stag to len ≡ At slot at → Lies p at len
+    (p : Part) (w : Window) (domain stag to len at : ℕ) → WindowIn p w →
+    taggedOf w domain stag to len ≡ At at → Lies p at len
 unfolding taggedOf
-tagged-in p ws domain stag to len slot at all e = go (eqb len 0) (found ws domain stag) refl e
+tagged-in p w domain stag to len at one e = go (eqb len 0) (foundIn w domain stag) refl e
   where
-    inner : (s : ℕ) → windowAt ws s .live ≡ true → (x : Span) → spanned (windowAt ws s) to len ≡ x → taggedIn s x ≡ At slot at → Lies p at len
-    inner s l Wrap q e = let no : _≡_ {A = ℕ} 0 1 = cc in omega arith
-    inner s l Outside q e = let no : _≡_ {A = ℕ} 0 1 = cc in omega arith
-    inner s l (Inside y) q e =
+    inner : w .live ≡ true → (x : Span) → spanned w to len ≡ x → taggedIn x ≡ At at → Lies p at len
+    inner l Wrap q e = let no : _≡_ {A = ℕ} 0 1 = cc in omega arith
+    inner l Outside q e = let no : _≡_ {A = ℕ} 0 1 = cc in omega arith
+    inner l (Inside y) q e =
         let same : y ≡ at = cc in
-        let a = span-in (windowAt ws s) to len y q in
-        let b = all s l in
+        let a = span-in w to len y q in
+        let b = one l in
         omega arith
 
-    go : (t : Bool) (f : Found) → found ws domain stag ≡ f → pick t Nowhere (taggedAt ws f to len) ≡ At slot at → Lies p at len
+    go : (t : Bool) (f : Found) → foundIn w domain stag ≡ f → pick t Nowhere (taggedAt w f to len) ≡ At at → Lies p at len
     go true f q e = let no : _≡_ {A = ℕ} 0 1 = cc in omega arith
     go false Foreign q e = let no : _≡_ {A = ℕ} 0 1 = cc in omega arith
     go false Missing q e = let no : _≡_ {A = ℕ} 0 1 = cc in omega arith
-    go false (Slot s) q e = inner s (found-live ws domain stag s q) (spanned (windowAt ws s) to len) refl e
+    go false (Slot s) q e = inner (found-live w domain stag s q) (spanned w to len) refl e
 
 -- each buffer that waits lies in the part
 abbrev pub BufferIn : Part → Buffer → Type 0

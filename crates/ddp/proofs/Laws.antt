@@ -14,10 +14,9 @@ use borrow.Author.Tests.{leb-true, leb-false, le-leb, lt-leb}
 use Rattle.wire.specs.Wire.{pick, both}
 use Rattle.wire.proofs.Laws.{both-true}
 use Rattle.ddp.specs.Part.{inPart}
-use Rattle.ddp.specs.Window.{inRange, windowFits, noWindow, windowAt, liveCount, lowestFree, named, found}
+use Rattle.ddp.specs.Window.{inRange, windowFits, noWindow, windowAt, liveCount, lowestFree}
 use Rattle.ddp.specs.declared.part.Part.{Part}
 use Rattle.ddp.specs.declared.window.Window.{Window}
-use Rattle.ddp.specs.declared.window.Found.the-variants.{Slot, Foreign, Missing}
 
 -- two tests of which each follows from the other
 pub leb-same : (a b c d : ℕ) → (a ≤ b → c ≤ d) → (c ≤ d → a ≤ b) → leb a b ≡ leb c d
@@ -101,17 +100,3 @@ pub shifted :
     getD l 1 d ∷ getD l 2 d ∷ getD l 3 d ∷ getD l 4 d ∷ getD l 5 d ∷ getD l 6 d ∷ getD l 7 d ∷ z ∷ [] ≡ drop 1 l ++ (z ∷ [])
 shifted d z l e =
     rw (drop-cons l 1 d (omega arith), drop-cons l 2 d (omega arith), drop-cons l 3 d (omega arith), drop-cons l 4 d (omega arith), drop-cons l 5 d (omega arith), drop-cons l 6 d (omega arith), drop-cons l 7 d (omega arith), drop-of-length-le l {i = 8} (omega arith))
-
--- an STag names one of the sixteen slots
-pub found-slot : (ws : List Window) (domain stag slot : ℕ) → found ws domain stag ≡ Slot slot → slot < 16
-unfolding found
-found-slot ws domain stag slot e =
-    go (leb (stag / 256) 63) (eqb (stag / 256 / 16) domain)
-    (named (windowAt ws (stag / 256 % 16)) (stag % 256))
-    e
-  where
-    go : (a b c : Bool) → pick a (pick b (pick c (Slot (stag / 256 % 16)) Missing) Foreign) Missing ≡ Slot slot → slot < 16
-    go true true true e = let same : stag / 256 % 16 ≡ slot = cc in omega arith
-    go true true false e = let no : _≡_ {A = ℕ} 0 1 = cc in omega arith
-    go true false c e = let no : _≡_ {A = ℕ} 0 1 = cc in omega arith
-    go false b c e = let no : _≡_ {A = ℕ} 0 1 = cc in omega arith

@@ -75,14 +75,19 @@ lowestFree (w ∷ ws) = pick (w .live) (1 + lowestFree ws) 0
 unfoldable pub named : Window → ℕ → Bool
 named w key = both (w .live) (eqb key (w .key))
 
--- "Its STag is window number × 256 + key"; "Domain d owns 16d to 16d+15". 24 asks whose the number is, live or not; then 25: "window number over 63, dead, or other key"
-unfoldable pub found : List Window → ℕ → ℕ → Found
-found windows domain stag =
+-- "Its STag is window number × 256 + key"; "Domain d owns 16d to 16d+15": the slot of the window that an STag names
+abbrev pub slotNamed : ℕ → ℕ
+slotNamed stag = stag / 256 % 16
+
+-- the window in that slot, as an STag finds it. 24 asks whose the number is, live or not; then 25: "window number over 63, dead, or other key"
+unfoldable pub foundIn : Window → ℕ → ℕ → Found
+foundIn w domain stag =
     pick (leb (stag / 256) 63)
-    (pick (eqb (stag / 256 / 16) domain)
-    (pick (named (windowAt windows (stag / 256 % 16)) (stag % 256)) (Slot (stag / 256 % 16)) Missing)
-    Foreign)
+    (pick (eqb (stag / 256 / 16) domain) (pick (named w (stag % 256)) (Slot (slotNamed stag)) Missing) Foreign)
     Missing
+
+abbrev pub found : List Window → ℕ → ℕ → Found
+found windows domain stag = foundIn (windowAt windows (slotNamed stag)) domain stag
 
 -- 26: "TO + payload above 2^64"
 unfoldable pub wraps : ℕ → ℕ → Bool

@@ -11,33 +11,34 @@ use crate::window::Found;
 use crate::window::Span;
 use crate::window::Window;
 
-// A payload goes nowhere, being empty, or to a place of the store through the window of a slot, or is refused.
+// A payload goes nowhere, being empty, or to a place of the store, or is refused.
 pub enum Tagged {
     Nowhere,
-    At { slot: usize, place: u64 },
+    At(u64),
     Refused(Refusal),
 }
 
-// Judges the span of a payload in the window of a slot.
-fn judge_span(w: Window, slot: usize, to: u64, len: u64) -> Tagged
-    ensures { λ r. ⌜ r ≡ taggedIn slot (spanned w to len) ⌝ }
+// Judges the span of a payload in a window.
+fn judge_span(w: Window, to: u64, len: u64) -> Tagged
+    ensures { λ r. ⌜ r ≡ taggedIn (spanned w to len) ⌝ }
 {
     match crate::window::span_of(w, to, len) {
-        Span::Inside(place) => Tagged::At { slot, place },
+        Span::Inside(place) => Tagged::At(place),
         Span::Wrap => Tagged::Refused(TO_WRAP),
         Span::Outside => Tagged::Refused(BOUNDS_VIOLATION),
     }
 }
 
-// Judges a tagged payload of len bytes; an empty one is not looked at.
-pub fn judge_tagged(windows: [Window; 16], domain: u64, stag: u32, to: u64, len: u64) -> Tagged
-    ensures { λ r. ⌜ r ≡ taggedOf windows domain stag to len ⌝ }
+// Judges a tagged payload of len bytes by w, the window in the slot that its STag names; an empty one
+// is not looked at.
+pub fn judge_tagged(w: Window, domain: u64, stag: u32, to: u64, len: u64) -> Tagged
+    ensures { λ r. ⌜ r ≡ taggedOf w domain stag to len ⌝ }
 {
     if len == 0 {
         return Tagged::Nowhere;
     }
-    match crate::window::find(windows, domain, stag) {
-        Found::Slot(slot) => judge_span(windows[slot], slot, to, len),
+    match crate::window::find_in(w, domain, stag) {
+        Found::Slot(_) => judge_span(w, to, len),
         Found::Foreign => Tagged::Refused(STAG_NOT_ASSOCIATED),
         Found::Missing => Tagged::Refused(INVALID_STAG),
     }

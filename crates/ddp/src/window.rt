@@ -1,7 +1,7 @@
 // Windows: the tagged buffers of a domain, sixteen by value, one entry changed at a time.
 ghost use mathlib.Core.Path.{_≡_};
 ghost use Prim.Native.Nat.{_<_};
-ghost use Rattle.ddp.specs.Window.{inRange, windowFits, refusing, entering, registered, dropped, liveCount, lowestFree, named, found, wraps, spanned};
+ghost use Rattle.ddp.specs.Window.{inRange, windowFits, refusing, entering, registered, dropped, liveCount, lowestFree, named, slotNamed, foundIn, found, wraps, spanned};
 use crate::part::Outcome;
 use crate::part::Part;
 use crate::part::inside;
@@ -198,24 +198,39 @@ fn is_named(w: Window, key: u32) -> bool
     false
 }
 
-// The window of a domain that an STag names. Whose it is comes before whether it is live.
-pub fn find(windows: [Window; 16], domain: u64, stag: u32) -> Found
-    ensures { λ r. ⌜ r ≡ found windows domain stag ⌝ }
+// The slot of the window that an STag names, in its domain.
+pub fn slot_named(stag: u32) -> usize
+    ensures { λ r. ⌜ r ≡ slotNamed stag ⌝ }
+{
+    (stag / 256 % 16) as usize
+}
+
+// What an STag names for a domain, whose window in the slot that it names is w. Whose it is comes
+// before whether it is live.
+pub fn find_in(w: Window, domain: u64, stag: u32) -> Found
+    ensures { λ r. ⌜ r ≡ foundIn w domain stag ⌝ }
 {
     let number = stag / 256;
     if number < 64 {
-        let i = (number % 16) as usize;
         let ours = (number / 16) as u64 == domain;
-        let live = is_named(windows[i], stag % 256);
+        let live = is_named(w, stag % 256);
         if ours {
             if live {
-                return Found::Slot(i);
+                return Found::Slot(slot_named(stag));
             }
             return Found::Missing;
         }
         return Found::Foreign;
     }
     Found::Missing
+}
+
+// The window of a domain that an STag names.
+pub fn find(windows: [Window; 16], domain: u64, stag: u32) -> Found
+    ensures { λ r. ⌜ r ≡ found windows domain stag ⌝ }
+{
+    let slot = slot_named(stag);
+    find_in(windows[slot], domain, stag)
 }
 
 // Whether to + len is above 2^64.

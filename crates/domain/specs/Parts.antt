@@ -1,14 +1,17 @@
 -- What receive does over the parts of a domain that it needs: its part of the store, its windows and one stream. A domain's
 -- receive is this, lifted: the stream of the slot is exchanged, and the window that a Send invalidated is dead.
-use Prim.Native.Nat.{ℕ}
+use Prim.Native.Nat.{ℕ, _-_}
 use mathlib.Core.List.{List}
 use lib.ListN.{length, set}
-use Rattle.wire.specs.Wire.{part}
-use Rattle.ddp.specs.Window.{dropped}
+use lib.Dec.{leb}
+use Rattle.wire.specs.Wire.{pick, part}
+use Rattle.ddp.specs.Window.{windowAt, dropped, slotNamed}
 use Rattle.ddp.specs.Tagged.{taggedOf}
 use Rattle.ddp.specs.Untagged.{untaggedOf}
+use Rattle.ddp.specs.Place.{placed}
 use Rattle.ddp.specs.Segment.{segmentRead}
 use Rattle.ddp.specs.declared.part.Part.{Part}
+use Rattle.ddp.specs.declared.header.TaggedHeader.{TaggedHeader}
 use Rattle.ddp.specs.declared.segment.SegmentRead.{SegmentRead}
 use Rattle.ddp.specs.declared.segment.SegmentRead.the-variants.{Wait as SegmentWait, Refused as SegmentRefused, Tagged as TaggedSegment, Untagged as UntaggedSegment}
 use Rattle.ddp.specs.declared.window.Window.{Window}
@@ -21,10 +24,9 @@ use Rattle.rdmap.specs.declared.message.Verdict.the-variants.{Refused as Verdic
 use Rattle.rdmap.specs.declared.stream.Readiness.{Readiness}
 use Rattle.rdmap.specs.declared.stream.Readiness.the-variants.{Ready, NotReady}
 use Rattle.rdmap.specs.declared.stream.Stream.{Stream}
-use Rattle.domain.specs.Domain.{sentEvent, appliedBytes}
 use Rattle.domain.specs.declared.Domain.{Domain}
 use Rattle.domain.specs.declared.Event.{Event}
-use Rattle.domain.specs.declared.Event.the-variants.{NoEvent, Terminated}
+use Rattle.domain.specs.declared.Event.the-variants.{NoEvent, Sent, SentInvalidating, Terminated}
 use Rattle.domain.specs.declared.Answer.{Answer}
 use Rattle.domain.specs.declared.Answer.the-variants.{Wait, Taken, Ended, Refused}
 use Rattle.domain.specs.declared.Received.{Received}
@@ -32,10 +34,15 @@ use Rattle.domain.specs.declared.parts.Judged.{Judged}
 use Rattle.domain.specs.declared.parts.Judged.the-variants.{Wait as JudgedWait, Fpdu}
 use Rattle.domain.specs.declared.parts.PartsReceived.{PartsReceived}
 
+-- "event: buffer start, message length, opcode, and for 4 and 6 the STag"
+abbrev pub sentEvent : ℕ → ℕ → ℕ → Invalidate → Event
+sentEvent start len opcode NoStag = Sent start len opcode
+sentEvent start len opcode (Stag slot stag) = SentInvalidating start len opcode stag
+
 abbrev pub partsTaken : Stream → ℕ → Event → Invalidate → PartsReceived
 partsTaken s total event inv = record { answer = Taken total event; stream = s; invalidate = inv }
 
--- what a verdict makes of the stream, and the answer
+-- what a verdict makes of the stream, and the answer: "Taken, with the FPDU's total and an event, or a refusal"
 unfoldable pub partsApplied : Stream → ℕ → Verdict → PartsReceived
 partsApplied s total (VerdictRefused r) = record { answer = Ended r; stream = endedBy s r; invalidate = NoStag }
 partsApplied s total Nothing = partsTaken s total NoEvent NoStag
@@ -45,16 +52,34 @@ partsApplied s total (SendLast at opcode start len inv) = partsTaken (sentOn s) 
 partsApplied s total (Read r) = partsTaken (queuedOn s r) total NoEvent NoStag
 partsApplied s total (Terminate layer etype code) = partsTaken (terminatedBy s) total (Terminated layer etype code) NoStag
 
+-- a payload placed in the domain's bytes, which start at a place of the store; one that does not lie in them is not placed
+unfoldable pub placedFrom : ℕ → ℕ → List ℕ → List ℕ → List ℕ
+placedFrom start at payload bytes = pick (leb start at) (placed bytes (at - start) payload) bytes
+
+-- and of the domain's bytes: "payload byte i goes to place + (TO − base) + i", "to buffer start + MO + i"
+unfoldable pub appliedBytes : ℕ → Verdict → List ℕ → List ℕ → List ℕ
+appliedBytes start (VerdictRefused r) payload bytes = bytes
+appliedBytes start Nothing payload bytes = bytes
+appliedBytes start (Write at) payload bytes = placedFrom start at payload bytes
+appliedBytes start (SendMore at opcode taken) payload bytes = placedFrom start at payload bytes
+appliedBytes start (SendLast at opcode from len inv) payload bytes = placedFrom start at payload bytes
+appliedBytes start (Read r) payload bytes = bytes
+appliedBytes start (Terminate layer etype code) payload bytes = bytes
+
+-- what a tagged segment of a header and a payload of len bytes is judged to be, by the window in the slot that its STag names
+abbrev pub taggedVerdict : Window → ℕ → TaggedHeader → ℕ → Verdict
+taggedVerdict w number h len = writeVerdict w (h .control) (taggedOf w number (h .stag) (h .to) len)
+
 -- what the segment is judged to be
 abbrev pub partsVerdict : List Window → ℕ → Stream → List ℕ → SegmentRead → Verdict
 partsVerdict ws number s input (SegmentWait n) = Nothing
 partsVerdict ws number s input (SegmentRefused r) = VerdictRefused r
 partsVerdict ws number s input (TaggedSegment total h start len) =
-    writeVerdict ws (h .control) (taggedOf ws number (h .stag) (h .to) len)
+    taggedVerdict (windowAt ws (slotNamed (h .stag))) number h len
 partsVerdict ws number s input (UntaggedSegment total h start len) =
     untaggedVerdict ws number s h (part input start len) (untaggedOf (queuesOf s) (h .qn) (h .msn) (h .mo) (length (part input start len)))
 
--- and the FPDU that it came in, with its total
+-- and the FPDU that it came in, with its total: "handles that first FPDU only"
 abbrev pub partsJudged : List Window → ℕ → Stream → List ℕ → SegmentRead → Judged
 partsJudged ws number s input (SegmentWait n) = JudgedWait n
 partsJudged ws number s input (SegmentRefused r) = Fpdu 0 (VerdictRefused r)

@@ -16,16 +16,15 @@ ghost use Rattle.domain.specs.Domain.{
   domainTaken,
   domainRegistered,
   domainDropped,
-  invalidating,
   domainReceived,
   domainReceivedBytes,
 };
+use crate::parts::kill;
 use crate::parts::receive_parts;
 use ddp::part::Outcome;
 use ddp::part::Part;
 use ddp::refusal::Refusal;
 use ddp::window::Window;
-use rdmap::message::Invalidate;
 use rdmap::stream::CloseAnswer;
 use rdmap::stream::Stream;
 use rdmap::stream::TakeAnswer;
@@ -230,23 +229,6 @@ pub fn drop_window(d: Domain, slot: u64) -> DomainDone
     }
 }
 
-// The domain with the window dead whose STag a Send invalidated.
-fn invalidate(d: Domain, which: Invalidate) -> Domain
-    ensures { λ r. ⌜ r ≡ invalidating d which ⌝ }
-{
-    match which {
-        Invalidate::NoStag => d,
-        Invalidate::Stag { slot, stag: _ } => {
-            let windows = d.windows;
-            let done = ddp::window::drop_window(windows, slot as u64);
-            let after = done.windows;
-            let mut next = d;
-            next.windows = after;
-            next
-        }
-    }
-}
-
 // Takes the first FPDU of bytes for a stream of the domain of this number, whose bytes are lent.
 pub fn receive(d: Domain, number: u64, store: &mut [u8], slot: u64, bytes: &[u8]) -> Received
     ensures { λ r. ⌜ (r ≡ domainReceived d number slot (now (bytes .entry))) × (now (store .exit) ≡ domainReceivedBytes d number slot (now (bytes .entry)) (now (store .entry))) ⌝ }
@@ -260,8 +242,13 @@ pub fn receive(d: Domain, number: u64, store: &mut [u8], slot: u64, bytes: &[u8]
         let answer = done.answer;
         let stream = done.stream;
         let which = done.invalidate;
-        let domain = invalidate(with_stream(d, at, stream), which);
-        return Received { answer, domain };
+        let after = kill(windows, which);
+        let mut next = with_stream(d, at, stream);
+        next.windows = after;
+        return Received {
+            answer,
+            domain: next,
+        };
     }
     Received {
         answer: Answer::Refused(1),

@@ -2,11 +2,11 @@
 // value. It answers that stream after it, and the window that a Send invalidated, so that a caller
 // who holds a domain in place copies neither its other streams nor the whole of it.
 //
-// Read `PartsReceived` first, then `receive_parts`. The definitions are in specs/Parts.antt; that a
-// domain's receive is this one, lifted, is the law of proofs/Lift.antt.
+// Read `PartsReceived` first, then `receive_parts`. The definitions are in specs/Parts.antt; a domain's
+// receive is defined by them.
 ghost use mathlib.Core.Path.{_≡_};
-ghost use Rattle.domain.specs.Domain.{sentEvent};
 ghost use Rattle.domain.specs.Parts.{
+  sentEvent,
   partsTaken,
   partsApplied,
   partsJudged,
@@ -14,6 +14,7 @@ ghost use Rattle.domain.specs.Parts.{
   partsUnchanged,
   partsReceived,
   partsReceivedBytes,
+  killed,
 };
 ghost use Rattle.ddp.specs.Segment.{segmentRead};
 use crate::Answer;
@@ -23,6 +24,7 @@ use ddp::part::Part;
 use ddp::segment::SegmentRead;
 use ddp::segment::read_segment;
 use ddp::window::Window;
+use ddp::window::slot_named;
 use rdmap::message::Invalidate;
 use rdmap::message::Verdict;
 use rdmap::message::judge_tagged_segment;
@@ -127,7 +129,8 @@ fn judge_first(
             len,
         } => {
             let end = start + len;
-            let verdict = judge_tagged_segment(windows, number, header, len as u64);
+            let w = windows[slot_named(header.stag)];
+            let verdict = judge_tagged_segment(w, number, header, len as u64);
             place_by(store, part.start, verdict, &bytes[start..end]);
             Judged::Fpdu(total, verdict)
         }
@@ -174,5 +177,18 @@ pub fn receive_parts(
             Judged::Fpdu(total, verdict) => apply(s, total, verdict),
         },
         Readiness::NotReady(refusal) => unchanged(s, Answer::Refused(refusal)),
+    }
+}
+
+// The windows with the one dead whose STag a Send invalidated.
+pub fn kill(windows: [Window; 16], which: Invalidate) -> [Window; 16]
+    ensures { λ r. ⌜ r ≡ killed which windows ⌝ }
+{
+    match which {
+        Invalidate::NoStag => windows,
+        Invalidate::Stag { slot, stag: _ } => {
+            let done = ddp::window::drop_window(windows, slot as u64);
+            done.windows
+        }
     }
 }

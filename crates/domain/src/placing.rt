@@ -1,6 +1,6 @@
 // Where a verdict says that a payload goes, it is put in the domain's bytes; else they stay as they are.
 ghost use mathlib.Core.Path.{_≡_};
-ghost use Rattle.domain.specs.Domain.{placedFrom, appliedBytes};
+ghost use Rattle.domain.specs.Parts.{placedFrom, appliedBytes};
 use rdmap::message::Verdict;
 
 // Places a payload at a place of the store in the domain's bytes, which start at start.

@@ -204,7 +204,7 @@ module _ (b : Rnic) (n : ℕ) where
 
   module _ (input : List ℕ) where
     received-in :
-        (k : ℕ) → leb n 15 ≡ true → eqb k (b .len) ≡ true → partFits (domainAt b (n / 4)) k ≡ true →
+        (k : ℕ) → leb n 15 ≡ true → eqb k (b .len) ≡ true → partFits (domainAt b (n / 4) .part) k ≡ true →
         rnicReceived b k n input ≡ record { answer = domainReceived (domainAt b (n / 4)) (n / 4) (n % 4) input .answer; rnic = withDomain b (n / 4) (domainReceived (domainAt b (n / 4)) (n / 4) (n % 4) input .domain) }
     unfolding rnicReceived receivedOwned
     received-in k e₁ e₂ e₃ = simp (e₁, e₂, e₃)
@@ -219,7 +219,7 @@ module _ (b : Rnic) (n : ℕ) where
     received-out k e = simp e
 
     store-in :
-        (mem : List ℕ) → leb n 15 ≡ true → eqb (length mem) (b .len) ≡ true → partFits (domainAt b (n / 4)) (length mem) ≡ true →
+        (mem : List ℕ) → leb n 15 ≡ true → eqb (length mem) (b .len) ≡ true → partFits (domainAt b (n / 4) .part) (length mem) ≡ true →
         rnicReceivedStore b n input mem ≡ withBytes (domainAt b (n / 4)) mem (domainReceivedBytes (domainAt b (n / 4)) (n / 4) (n % 4) input (bytesOf (domainAt b (n / 4)) mem))
     unfolding rnicReceivedStore receivedOwnedStore
     store-in mem e₁ e₂ e₃ = simp (e₁, e₂, e₃)
@@ -238,7 +238,7 @@ module _ (b : Rnic) (n : ℕ) where
     store-out mem e = simp e
 
 -- the part of a domain of a well-formed device lies in its store, so guard 9 of the device is never met
-pub part-fits : (w : World) → Fit w → (d : ℕ) → d < 4 → (k : ℕ) → k ≡ length (w .mem) → partFits (domainAt (w .dev) d) k ≡ true
+pub part-fits : (w : World) → Fit w → (d : ℕ) → d < 4 → (k : ℕ) → k ≡ length (w .mem) → partFits (domainAt (w .dev) d .part) k ≡ true
 part-fits w f d h k e = simp (le-leb (domainAt (w .dev) d .part .start) (domainAt (w .dev) d .part .end) (f .ordered d h), le-leb (domainAt (w .dev) d .part .end) k (rw e (f .within d h)))
 
 module _ (w : World) (n : ℕ) (input : List ℕ) (k : ℕ) (a : Answer) (w₁ : World) (s : Step w (receive n input k) a w₁) where

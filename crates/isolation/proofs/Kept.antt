@@ -10,15 +10,18 @@ use Rattle.wire.specs.Wire.{pick, part}
 use Rattle.wire.proofs.Laws.{length-put}
 use Rattle.ddp.specs.Place.{fits, placed}
 use Rattle.ddp.specs.Segment.{segmentRead}
+use Rattle.ddp.specs.declared.part.Part.{Part}
 use Rattle.ddp.specs.declared.segment.SegmentRead.{SegmentRead}
 use Rattle.ddp.specs.declared.segment.SegmentRead.the-variants.{Wait, Refused as SegmentRefused, Tagged, Untagged}
+use Rattle.ddp.specs.declared.window.Window.{Window}
 use Rattle.rdmap.specs.Stream.{readiness}
-use Rattle.rdmap.specs.declared.message.Invalidate.the-variants.{NoStag, Stag}
 use Rattle.rdmap.specs.declared.message.Verdict.{Verdict}
 use Rattle.rdmap.specs.declared.message.Verdict.the-variants.{Refused as VerdictRefused, Nothing, Write, SendMore, SendLast, Read, Terminate}
 use Rattle.rdmap.specs.declared.stream.Readiness.{Readiness}
 use Rattle.rdmap.specs.declared.stream.Readiness.the-variants.{Ready, NotReady}
-use Rattle.domain.specs.Domain.{streamAt, domainOpened, domainClosed, domainPosted, domainTaken, domainRegistered, domainDropped, domainReceived, domainReceivedBytes, applied, appliedBytes, placedFrom, segmentJudged, receivedSegment, receivedSegmentBytes, receivedWhen, receivedBytesWhen}
+use Rattle.rdmap.specs.declared.stream.Stream.{Stream}
+use Rattle.domain.specs.Domain.{streamAt, domainOpened, domainClosed, domainPosted, domainTaken, domainRegistered, domainDropped, domainReceived, domainReceivedBytes}
+use Rattle.domain.specs.Parts.{appliedBytes, placedFrom, partsVerdict, partsPlaced, partsBytesWhen, partsReceived, partsReceivedBytes, lifted}
 use Rattle.domain.specs.declared.Domain.{Domain}
 use Rattle.domain.specs.declared.DomainDone.{DomainDone}
 use Rattle.domain.specs.declared.DomainClosed.{DomainClosed}
@@ -66,34 +69,9 @@ module _ (d : Domain) where
   unfolding domainDropped
   dropped-keeps slot = refl
 
-  -- ---- receive
-  applied-keeps : (slot total : ℕ) (v : Verdict) → applied d slot total v .domain .part ≡ d .part
-  unfolding applied
-  applied-keeps slot total (VerdictRefused r) = refl
-  applied-keeps slot total Nothing = refl
-  applied-keeps slot total (Write at) = refl
-  applied-keeps slot total (SendMore at opcode taken) = refl
-  applied-keeps slot total (SendLast at opcode start len NoStag) = refl
-  applied-keeps slot total (SendLast at opcode start len (Stag i stag)) = refl
-  applied-keeps slot total (Read r) = refl
-  applied-keeps slot total (Terminate layer etype code) = refl
-
-  segment-keeps : (number slot : ℕ) (input : List ℕ) (s : SegmentRead) → receivedSegment d number slot input s .domain .part ≡ d .part
-  segment-keeps number slot input (Wait n) = refl
-  segment-keeps number slot input (SegmentRefused r) = applied-keeps slot 0 (VerdictRefused r)
-  segment-keeps number slot input (Tagged total h start len) =
-      applied-keeps slot total (segmentJudged d number (streamAt d slot) input (Tagged total h start len))
-  segment-keeps number slot input (Untagged total h start len) =
-      applied-keeps slot total (segmentJudged d number (streamAt d slot) input (Untagged total h start len))
-
-  when-keeps : (number slot : ℕ) (input : List ℕ) (r : Readiness) → receivedWhen d number slot input r .domain .part ≡ d .part
-  when-keeps number slot input Ready = segment-keeps number slot input (segmentRead (streamAt d slot .crc) input)
-  when-keeps number slot input (NotReady k) = refl
-
   pub received-keeps : (number slot : ℕ) (input : List ℕ) → domainReceived d number slot input .domain .part ≡ d .part
   unfolding domainReceived
-  received-keeps number slot input =
-      received-part (leb slot 3) (receivedWhen d number slot input (readiness (streamAt d slot .phase))) _ (when-keeps number slot input (readiness (streamAt d slot .phase))) refl
+  received-keeps number slot input = received-part (leb slot 3) (lifted d slot (partsReceived (d .windows) number (streamAt d slot) input)) _ refl refl
 
 -- ---- as many bytes
 length-pick : (t : Bool) (x y l : List ℕ) → (t ≡ true → length x ≡ length l) → length y ≡ length l → length (pick t x y) ≡ length l
@@ -118,20 +96,22 @@ applied-many start (SendLast at opcode from len inv) xs l = from-many start at x
 applied-many start (Read r) xs l = refl
 applied-many start (Terminate layer etype code) xs l = refl
 
-module _ (d : Domain) (number slot : ℕ) (input l : List ℕ) where
-  segment-many : (s : SegmentRead) → length (receivedSegmentBytes d number slot input l s) ≡ length l
+module _ (p : Part) (ws : List Window) (number : ℕ) (s : Stream) (input l : List ℕ) where
+  segment-many : (x : SegmentRead) → length (partsPlaced p ws number s input l x) ≡ length l
   segment-many (Wait n) = refl
   segment-many (SegmentRefused r) = refl
-  segment-many (Tagged total h start len) =
-      applied-many (d .part .start) (segmentJudged d number (streamAt d slot) input (Tagged total h start len)) (part input start len) l
-  segment-many (Untagged total h start len) =
-      applied-many (d .part .start) (segmentJudged d number (streamAt d slot) input (Untagged total h start len)) (part input start len) l
+  segment-many (Tagged total h start len) = applied-many (p .start) (partsVerdict ws number s input (Tagged total h start len)) (part input start len) l
+  segment-many (Untagged total h start len) = applied-many (p .start) (partsVerdict ws number s input (Untagged total h start len)) (part input start len) l
 
-  when-many : (r : Readiness) → length (receivedBytesWhen d number slot input l r) ≡ length l
-  when-many Ready = segment-many (segmentRead (streamAt d slot .crc) input)
+  when-many : (r : Readiness) → length (partsBytesWhen p ws number s input l r) ≡ length l
+  when-many Ready = segment-many (segmentRead (s .crc) input)
   when-many (NotReady k) = refl
 
-  pub received-many : length (domainReceivedBytes d number slot input l) ≡ length l
-  unfolding domainReceivedBytes
-  received-many =
-      length-pick (leb slot 3) (receivedBytesWhen d number slot input l (readiness (streamAt d slot .phase))) l l (λ e. when-many (readiness (streamAt d slot .phase))) refl
+  parts-many : length (partsReceivedBytes p ws number s input l) ≡ length l
+  unfolding partsReceivedBytes
+  parts-many = when-many (readiness (s .phase))
+
+pub received-many : (d : Domain) (number slot : ℕ) (input l : List ℕ) → length (domainReceivedBytes d number slot input l) ≡ length l
+unfolding domainReceivedBytes
+received-many d number slot input l =
+    length-pick (leb slot 3) (partsReceivedBytes (d .part) (d .windows) number (streamAt d slot) input l) l l (λ e. parts-many (d .part) (d .windows) number (streamAt d slot) input l) refl

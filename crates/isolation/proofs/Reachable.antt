@@ -14,7 +14,7 @@ use borrow.Rule.Slice.PartMut.{mid-len}
 use Rattle.wire.specs.Wire.{pick, both, part, put}
 use Rattle.wire.proofs.Laws.{length-part}
 use Rattle.ddp.specs.Part.{inPart}
-use Rattle.ddp.specs.Window.{noWindow, windowAt, found, spanned}
+use Rattle.ddp.specs.Window.{noWindow, windowAt, slotNamed, found, spanned}
 use Rattle.ddp.specs.Buffer.{noBuffer, posted, poppedOf}
 use Rattle.ddp.specs.Tagged.{taggedOf}
 use Rattle.ddp.specs.Untagged.{untaggedIn, untaggedOf}
@@ -37,13 +37,14 @@ use Rattle.ddp.specs.declared.window.Found.{Found}
 use Rattle.ddp.specs.declared.window.Found.the-variants.{Slot, Foreign, Missing}
 use Rattle.ddp.specs.declared.window.Span.{Span}
 use Rattle.ddp.specs.declared.window.Span.the-variants.{Inside, Wrap, Outside}
-use Rattle.ddp.proofs.Inside.{Lies, WindowsIn, BuffersIn, registered-in, dropped-in, tagged-in, posted-in, popped-in}
+use Rattle.ddp.proofs.Inside.{Lies, WindowIn, WindowsIn, BuffersIn, registered-in, dropped-in, tagged-in, posted-in, popped-in}
 use Rattle.rdmap.specs.Message.{opcodeOf, controlled, after, mayWrite, mayRead, writeVerdict, fitsQueue, takesStag, invalidated, sendVerdict, sourceIn, sourceOf, readVerdict, terminateVerdict, messageVerdict, queuesOf, untaggedVerdict}
 use Rattle.rdmap.specs.Read.{requestAt}
 use Rattle.rdmap.specs.Refusal.{noWriteRight, noReadRight, malformed}
 use Rattle.rdmap.specs.Stream.{noBuffers, closedStream, isClosed, readiness, opened, closed, postedWhen, postedOn, takenWhen, takenFrom}
 use Rattle.rdmap.specs.declared.message.Control.{Control}
 use Rattle.rdmap.specs.declared.message.Control.the-variants.{Good, Refused as ControlRefused}
+use Rattle.rdmap.specs.declared.message.Invalidate.{Invalidate}
 use Rattle.rdmap.specs.declared.message.Invalidate.the-variants.{NoStag, Stag}
 use Rattle.rdmap.specs.declared.message.Verdict.{Verdict}
 use Rattle.rdmap.specs.declared.message.Verdict.the-variants.{Refused as VerdictRefused, Nothing, Write, SendMore, SendLast, Read, Terminate}
@@ -54,12 +55,15 @@ use Rattle.rdmap.specs.declared.stream.Stream.{Stream}
 use Rattle.rdmap.specs.declared.stream.StreamDone.{StreamDone}
 use Rattle.rdmap.specs.declared.stream.StreamClosed.{StreamClosed}
 use Rattle.rdmap.specs.declared.stream.StreamTaken.{StreamTaken}
-use Rattle.domain.specs.Domain.{noStream, streamAt, withStream, withWindows, newDomain, domainOpened, domainClosed, domainPosted, domainTaken, domainRegistered, domainDropped, domainReceived, domainReceivedBytes, applied, appliedBytes, placedFrom, segmentJudged, receivedSegment, receivedSegmentBytes, receivedWhen, receivedBytesWhen}
+use Rattle.domain.specs.Domain.{noStream, streamAt, withStream, withWindows, newDomain, domainOpened, domainClosed, domainPosted, domainTaken, domainRegistered, domainDropped, domainReceived, domainReceivedBytes}
+use Rattle.domain.specs.Parts.{appliedBytes, placedFrom, partsApplied, taggedVerdict, partsVerdict, partsJudged, partsPlaced, partsAnswered, partsWhen, partsBytesWhen, partsReceived, partsReceivedBytes, killed, lifted}
 use Rattle.domain.specs.declared.Domain.{Domain}
 use Rattle.domain.specs.declared.DomainDone.{DomainDone}
 use Rattle.domain.specs.declared.DomainClosed.{DomainClosed}
 use Rattle.domain.specs.declared.DomainTaken.{DomainTaken}
 use Rattle.domain.specs.declared.Received.{Received}
+use Rattle.domain.specs.declared.parts.Judged.{Judged}
+use Rattle.domain.specs.declared.parts.Judged.the-variants.{Wait as JudgedWait, Fpdu}
 use Rattle.domain.proofs.Inside.{inside}
 use Rattle.rnic.specs.Rnic.{domainAt, bytesOf, partFits}
 use Rattle.isolation.specs.Book.{Call, Answer, View, Seen, Opening, owner, heard, book, startOf, endOf}
@@ -155,6 +159,30 @@ module _ (p : Part) where
     unfolding takenFrom
     taken-waits = taken-when-waits (readiness (s .phase))
 
+    -- ---- receive
+    applied-waits : (total : ℕ) (v : Verdict) → Waits p (partsApplied s total v .stream .buffers)
+    unfolding partsApplied
+    applied-waits total (VerdictRefused r) = w
+    applied-waits total Nothing = w
+    applied-waits total (Write at) = w
+    applied-waits total (SendMore at opcode taken) = w
+    applied-waits total (SendLast at opcode start len inv) = popped-waits (s .buffers) w
+    applied-waits total (Read r) = w
+    applied-waits total (Terminate layer etype code) = w
+
+    answered-waits : (j : Judged) → Waits p (partsAnswered s j .stream .buffers)
+    answered-waits (JudgedWait n) = w
+    answered-waits (Fpdu total v) = applied-waits total v
+
+    module _ (ws : List Window) (number : ℕ) (input : List ℕ) where
+      when-waits : (r : Readiness) → Waits p (partsWhen ws number s input r .stream .buffers)
+      when-waits Ready = answered-waits (partsJudged ws number s input (segmentRead (s .crc) input))
+      when-waits (NotReady n) = w
+
+      received-waits : Waits p (partsReceived ws number s input .stream .buffers)
+      unfolding partsReceived
+      received-waits = when-waits (readiness (s .phase))
+
 -- ---- a new domain
 none-live : (n i : ℕ) → windowAt (replicate n noWindow) i ≡ noWindow
 none-live zero i = refl
@@ -236,37 +264,19 @@ module _ (d : Domain) (k : Sound d) where
   dropped-sound slot = with-windows d _ k (dropped-in (d .part) (d .windows) slot (k .windowed))
 
   -- ---- receive
-  applied-sound : (slot total : ℕ) → slot < 4 → (v : Verdict) → Sound (applied d slot total v .domain)
-  unfolding applied
-  applied-sound slot total h (VerdictRefused r) = with-stream d slot _ k h (k .waiting slot h)
-  applied-sound slot total h Nothing = k
-  applied-sound slot total h (Write at) = k
-  applied-sound slot total h (SendMore at opcode taken) = with-stream d slot _ k h (k .waiting slot h)
-  applied-sound slot total h (SendLast at opcode start len NoStag) =
-      with-stream d slot _ k h (popped-waits (d .part) (streamAt d slot .buffers) (k .waiting slot h))
-  applied-sound slot total h (SendLast at opcode start len (Stag i stag)) =
-      with-windows (withStream d slot _) _ (with-stream d slot _ k h (popped-waits (d .part) (streamAt d slot .buffers) (k .waiting slot h)))
-      (dropped-in (d .part) (d .windows) i (k .windowed))
-  applied-sound slot total h (Read r) = with-stream d slot _ k h (k .waiting slot h)
-  applied-sound slot total h (Terminate layer etype code) = with-stream d slot _ k h (k .waiting slot h)
-
-  segment-sound : (number slot : ℕ) → slot < 4 → (input : List ℕ) (s : SegmentRead) → Sound (receivedSegment d number slot input s .domain)
-  segment-sound number slot h input (Wait n) = k
-  segment-sound number slot h input (SegmentRefused r) = applied-sound slot 0 h (VerdictRefused r)
-  segment-sound number slot h input (TaggedSegment total t start len) =
-      applied-sound slot total h (segmentJudged d number (streamAt d slot) input (TaggedSegment total t start len))
-  segment-sound number slot h input (UntaggedSegment total t start len) =
-      applied-sound slot total h (segmentJudged d number (streamAt d slot) input (UntaggedSegment total t start len))
-
-  when-sound : (number slot : ℕ) → slot < 4 → (input : List ℕ) (r : Readiness) → Sound (receivedWhen d number slot input r .domain)
-  when-sound number slot h input Ready = segment-sound number slot h input (segmentRead (streamAt d slot .crc) input)
-  when-sound number slot h input (NotReady n) = k
+  killed-in : (inv : Invalidate) → WindowsIn (d .part) (killed inv (d .windows))
+  killed-in NoStag = k .windowed
+  killed-in (Stag i stag) = dropped-in (d .part) (d .windows) i (k .windowed)
 
   pub received-sound : (number slot : ℕ) (input : List ℕ) → Sound (domainReceived d number slot input .domain)
   unfolding domainReceived
   received-sound number slot input =
-      received-pick (leb slot 3) (receivedWhen d number slot input (readiness (streamAt d slot .phase))) _
-      (λ e. when-sound number slot (slot-lt slot e) input (readiness (streamAt d slot .phase))) k
+      let r = partsReceived (d .windows) number (streamAt d slot) input in
+      received-pick (leb slot 3) (lifted d slot r) _
+      (λ e. with-windows (withStream d slot (r .stream)) _
+      (with-stream d slot (r .stream) k (slot-lt slot e) (received-waits (d .part) (streamAt d slot) (k .waiting slot (slot-lt slot e)) (d .windows) number input))
+      (killed-in (r .invalidate)))
+      k
 
 -- ---- over a run
 seen-sound : (t : Bool) (x y : Seen) → Sound (x .after .dom) → Sound (y .after .dom) → Sound (pick t x y .after .dom)
@@ -365,13 +375,13 @@ module _ (p : Part) (n : ℕ) where
   after-lands (ControlRefused r) v l = tt
 
   write-lands :
-      (ws : List Window) (number stag to control : ℕ) → WindowsIn p ws →
-      (t : Tagged) → taggedOf ws number stag to n ≡ t → Lands p (writeVerdict ws control t) n
-  write-lands ws number stag to control all (TaggedRefused r) e = tt
-  write-lands ws number stag to control all Nowhere e = after-lands (controlled control (eqb (opcodeOf control) 0)) Nothing tt
-  write-lands ws number stag to control all (TaggedAt slot place) e =
-      after-lands (controlled control (eqb (opcodeOf control) 0)) (pick (mayWrite (windowAt ws slot)) (Write place) (VerdictRefused noWriteRight))
-      (pick-lands (mayWrite (windowAt ws slot)) (Write place) (VerdictRefused noWriteRight) (tagged-in p ws number stag to n slot place all e) tt)
+      (w : Window) (number stag to control : ℕ) → WindowIn p w →
+      (t : Tagged) → taggedOf w number stag to n ≡ t → Lands p (writeVerdict w control t) n
+  write-lands w number stag to control one (TaggedRefused r) e = tt
+  write-lands w number stag to control one Nowhere e = after-lands (controlled control (eqb (opcodeOf control) 0)) Nothing tt
+  write-lands w number stag to control one (TaggedAt place) e =
+      after-lands (controlled control (eqb (opcodeOf control) 0)) (pick (mayWrite w) (Write place) (VerdictRefused noWriteRight))
+      (pick-lands (mayWrite w) (Write place) (VerdictRefused noWriteRight) (tagged-in p w number stag to n place one e) tt)
 
   invalidated-lands : (b : Buffer) (opcode start end stag : ℕ) → Lies p (b .start + start) n → (f : Found) → Lands p (invalidated b opcode start end stag f) n
   invalidated-lands b opcode start end stag l Foreign = tt
@@ -470,13 +480,14 @@ module _ (p : Part) (n : ℕ) where
 module _ (d : Domain) (k : Sound d) (number slot : ℕ) (h : slot < 4) (input : List ℕ) where
   pub judged-lands :
       (s : SegmentRead) → s ≡ segmentRead (streamAt d slot .crc) input →
-      Lands (d .part) (segmentJudged d number (streamAt d slot) input s) (length (payloadOf input s))
+      Lands (d .part) (partsVerdict (d .windows) number (streamAt d slot) input s) (length (payloadOf input s))
   judged-lands (Wait n) e = tt
   judged-lands (SegmentRefused r) e = tt
   judged-lands (TaggedSegment total t start len) e =
-      subst (Lands (d .part) (writeVerdict (d .windows) (t .control) (taggedOf (d .windows) number (t .stag) (t .to) len)))
+      let w = windowAt (d .windows) (slotNamed (t .stag)) in
+      subst (Lands (d .part) (taggedVerdict w number t len))
       (sym (length-part input start len (inside (streamAt d slot .crc) input (TaggedSegment total t start len) e)))
-      (write-lands (d .part) len (d .windows) number (t .stag) (t .to) (t .control) (k .windowed) (taggedOf (d .windows) number (t .stag) (t .to) len) refl)
+      (write-lands (d .part) len w number (t .stag) (t .to) (t .control) (k .windowed (slotNamed (t .stag))) (taggedOf w number (t .stag) (t .to) len) refl)
   judged-lands (UntaggedSegment total t start len) e =
       untagged-lands (d .part) (length (part input start len)) (d .windows) number (streamAt d slot) (k .waiting slot h .inside) t (part input start len)
       (untaggedOf (queuesOf (streamAt d slot)) (t .qn) (t .msn) (t .mo) (length (part input start len))) refl
@@ -484,40 +495,40 @@ module _ (d : Domain) (k : Sound d) (number slot : ℕ) (h : slot < 4) (input : 
   module _ (bytes : List ℕ) (long : length bytes ≡ d .part .end - d .part .start) where
     segment-whole :
         (s : SegmentRead) → s ≡ segmentRead (streamAt d slot .crc) input →
-        receivedSegmentBytes d number slot input bytes s ≡ ruled (d .part .start) (segmentJudged d number (streamAt d slot) input s) (payloadOf input s) bytes
+        partsPlaced (d .part) (d .windows) number (streamAt d slot) input bytes s ≡ ruled (d .part .start) (partsVerdict (d .windows) number (streamAt d slot) input s) (payloadOf input s) bytes
     segment-whole (Wait n) e = refl
     segment-whole (SegmentRefused r) e = refl
     segment-whole (TaggedSegment total t start len) e =
-        applied-whole (d .part) (segmentJudged d number (streamAt d slot) input (TaggedSegment total t start len)) (part input start len) bytes long
+        applied-whole (d .part) (partsVerdict (d .windows) number (streamAt d slot) input (TaggedSegment total t start len)) (part input start len) bytes long
         (judged-lands (TaggedSegment total t start len) e)
     segment-whole (UntaggedSegment total t start len) e =
-        applied-whole (d .part) (segmentJudged d number (streamAt d slot) input (UntaggedSegment total t start len)) (part input start len) bytes long
+        applied-whole (d .part) (partsVerdict (d .windows) number (streamAt d slot) input (UntaggedSegment total t start len)) (part input start len) bytes long
         (judged-lands (UntaggedSegment total t start len) e)
 
     -- what an open stream receives is placed by the rule alone
     pub placed-where-judged :
         readiness (streamAt d slot .phase) ≡ Ready →
         domainReceivedBytes d number slot input bytes
-        ≡ ruled (d .part .start) (segmentJudged d number (streamAt d slot) input (segmentRead (streamAt d slot .crc) input)) (payloadOf input (segmentRead (streamAt d slot .crc) input)) bytes
-    unfolding domainReceivedBytes
+        ≡ ruled (d .part .start) (partsVerdict (d .windows) number (streamAt d slot) input (segmentRead (streamAt d slot .crc) input)) (payloadOf input (segmentRead (streamAt d slot .crc) input)) bytes
+    unfolding domainReceivedBytes partsReceivedBytes
     placed-where-judged ready =
-        ap (λ (t : Bool). pick t (receivedBytesWhen d number slot input bytes (readiness (streamAt d slot .phase))) bytes) (le-leb slot 3 (omega arith))
-        ∙ ap (λ (r : Readiness). receivedBytesWhen d number slot input bytes r) ready
+        ap (λ (t : Bool). pick t (partsReceivedBytes (d .part) (d .windows) number (streamAt d slot) input bytes) bytes) (le-leb slot 3 (omega arith))
+        ∙ ap (λ (r : Readiness). partsBytesWhen (d .part) (d .windows) number (streamAt d slot) input bytes r) ready
         ∙ segment-whole (segmentRead (streamAt d slot .crc) input) refl
 
 -- ---- every world that a run from an opening reaches: no domain's part lies out of the store, and a payload that is judged to be
 -- placed lies in the part, so that what becomes of the bytes is the rule with no guard
 pub record Unguarded (w : World) (A : ℕ) : Type 0 where
   pub sound : Sound (domainAt (w .dev) A)
-  pub in-store : partFits (domainAt (w .dev) A) (length (w .mem)) ≡ true
+  pub in-store : partFits (domainAt (w .dev) A .part) (length (w .mem)) ≡ true
   pub in-part :
       (slot : ℕ) → slot < 4 → (input : List ℕ) (s : SegmentRead) → s ≡ segmentRead (streamAt (domainAt (w .dev) A) slot .crc) input →
-      Lands (domainAt (w .dev) A .part) (segmentJudged (domainAt (w .dev) A) A (streamAt (domainAt (w .dev) A) slot) input s) (length (payloadOf input s))
+      Lands (domainAt (w .dev) A .part) (partsVerdict (domainAt (w .dev) A .windows) A (streamAt (domainAt (w .dev) A) slot) input s) (length (payloadOf input s))
   pub by-rule :
       (slot : ℕ) → slot < 4 → (input : List ℕ) → readiness (streamAt (domainAt (w .dev) A) slot .phase) ≡ Ready →
       domainReceivedBytes (domainAt (w .dev) A) A slot input (bytesOf (domainAt (w .dev) A) (w .mem))
       ≡ ruled (domainAt (w .dev) A .part .start)
-      (segmentJudged (domainAt (w .dev) A) A (streamAt (domainAt (w .dev) A) slot) input (segmentRead (streamAt (domainAt (w .dev) A) slot .crc) input))
+      (partsVerdict (domainAt (w .dev) A .windows) A (streamAt (domainAt (w .dev) A) slot) input (segmentRead (streamAt (domainAt (w .dev) A) slot .crc) input))
       (payloadOf input (segmentRead (streamAt (domainAt (w .dev) A) slot .crc) input))
       (bytesOf (domainAt (w .dev) A) (w .mem))
 

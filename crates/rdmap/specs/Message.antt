@@ -58,12 +58,11 @@ abbrev pub mayRead : Window → Bool
 mayRead w = leb 2 (w .rights)
 
 -- "0 Write (tagged)"; "2 Read Response isn't expected here yet"; 35 is asked of payloads from 1 byte
-abbrev pub writeVerdict : List Window → ℕ → Tagged → Verdict
-writeVerdict windows control (TaggedRefused r) = Refused r
-writeVerdict windows control Nowhere = after (controlled control (eqb (opcodeOf control) 0)) Nothing
-writeVerdict windows control (TaggedAt slot place) =
-    after (controlled control (eqb (opcodeOf control) 0))
-    (pick (mayWrite (windowAt windows slot)) (Write place) (Refused noWriteRight))
+abbrev pub writeVerdict : Window → ℕ → Tagged → Verdict
+writeVerdict w control (TaggedRefused r) = Refused r
+writeVerdict w control Nowhere = after (controlled control (eqb (opcodeOf control) 0)) Nothing
+writeVerdict w control (TaggedAt place) =
+    after (controlled control (eqb (opcodeOf control) 0)) (pick (mayWrite w) (Write place) (Refused noWriteRight))
 
 -- ---- untagged segments
 

@@ -134,18 +134,15 @@ fn judge_right(w: Window, place: u64) -> Verdict
     }
 }
 
-// Judges a tagged segment that DDP has judged.
-fn judge_write(windows: [Window; 16], control: u8, tagged: Tagged) -> Verdict
-    ensures { λ r. ⌜ r ≡ writeVerdict windows control tagged ⌝ }
+// Judges a tagged segment that DDP has judged by the window w.
+fn judge_write(w: Window, control: u8, tagged: Tagged) -> Verdict
+    ensures { λ r. ⌜ r ≡ writeVerdict w control tagged ⌝ }
 {
     let good = judge_control(control, control % 16 == 0);
     match tagged {
         Tagged::Refused(refusal) => Verdict::Refused(refusal),
         Tagged::Nowhere => unless_refused(good, Verdict::Nothing),
-        Tagged::At { slot, place } => {
-            let w = window_of(windows, slot);
-            unless_refused(good, judge_right(w, place))
-        }
+        Tagged::At(place) => unless_refused(good, judge_right(w, place)),
     }
 }
 
@@ -159,17 +156,12 @@ fn unless_refused(control: Control, further: Verdict) -> Verdict
     }
 }
 
-// Judges a tagged segment with a payload of len bytes.
-pub fn judge_tagged_segment(
-    windows: [Window; 16],
-    domain: u64,
-    h: TaggedHeader,
-    len: u64,
-) -> Verdict
-    ensures { λ r. ⌜ r ≡ writeVerdict windows (h .control) (taggedOf windows domain (h .stag) (h .to) len) ⌝ }
+// Judges a tagged segment with a payload of len bytes by w, the window in the slot that its STag names.
+pub fn judge_tagged_segment(w: Window, domain: u64, h: TaggedHeader, len: u64) -> Verdict
+    ensures { λ r. ⌜ r ≡ writeVerdict w (h .control) (taggedOf w domain (h .stag) (h .to) len) ⌝ }
 {
-    let tagged = ddp::tagged::judge_tagged(windows, domain, h.stag, h.to, len);
-    judge_write(windows, h.control, tagged)
+    let tagged = ddp::tagged::judge_tagged(w, domain, h.stag, h.to, len);
+    judge_write(w, h.control, tagged)
 }
 
 // Whether an opcode fits a queue, where a Send with the opcode under is under way (0: none).

@@ -7,6 +7,7 @@ use lib.Dec.{leb, eqb}
 use borrow.Rule.Slice.PartMut.{midOf, putMid}
 use Rattle.wire.specs.Wire.{pick, both}
 use Rattle.ddp.specs.Window.{liveCount, lowestFree}
+use Rattle.ddp.specs.declared.part.Part.{Part}
 use Rattle.ddp.specs.declared.part.Outcome.{Outcome}
 use Rattle.ddp.specs.declared.part.Outcome.the-variants.{Done, Refused as NotDone}
 use Rattle.rdmap.specs.declared.stream.CloseAnswer.the-variants.{Refused as NotClosed}
@@ -101,14 +102,14 @@ rnicTaken b n =
     })
     (record { answer = NotTaken 1; rnic = b })
 
--- the domain's part lies in a store of this length
-abbrev pub partFits : Domain → ℕ → Bool
-partFits d size = both (leb (d .part .start) (d .part .end)) (leb (d .part .end) size)
+-- a part lies in a store of this length
+abbrev pub partFits : Part → ℕ → Bool
+partFits p size = both (leb (p .start) (p .end)) (leb (p .end) size)
 
 -- the owner's part lies in the store, or 9, which no device that was opened gives
 unfoldable pub receivedOwned : Rnic → ℕ → ℕ → List ℕ → RnicReceived
 receivedOwned b size n input =
-    pick (partFits (domainAt b (n / 4)) size)
+    pick (partFits (domainAt b (n / 4) .part) size)
     (record {
       answer = domainReceived (domainAt b (n / 4)) (n / 4) (n % 4) input .answer;
       rnic = withDomain b (n / 4) (domainReceived (domainAt b (n / 4)) (n / 4) (n % 4) input .domain);
@@ -117,7 +118,7 @@ receivedOwned b size n input =
 
 unfoldable pub receivedOwnedStore : Rnic → ℕ → List ℕ → List ℕ → List ℕ
 receivedOwnedStore b n input mem =
-    pick (partFits (domainAt b (n / 4)) (length mem))
+    pick (partFits (domainAt b (n / 4) .part) (length mem))
     (withBytes (domainAt b (n / 4)) mem (domainReceivedBytes (domainAt b (n / 4)) (n / 4) (n % 4) input (bytesOf (domainAt b (n / 4)) mem)))
     mem
 

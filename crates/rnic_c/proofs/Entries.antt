@@ -7,16 +7,15 @@ use mathlib.Core.List.{List}
 use lib.ListN.{length, set}
 use lib.Dec.{leb, eqb}
 use lib.Seq.{set-getD}
-use borrow.Author.Tests.{leb-true}
+use borrow.Author.Tests.{leb-true, le-leb}
 use Rattle.wire.specs.Wire.{pick}
-use Rattle.domain.specs.Domain.{streamAt, noStream}
-use Rattle.domain.specs.Parts.{partsReceived}
+use Rattle.domain.specs.Domain.{streamAt, noStream, domainReceived, domainReceivedBytes}
+use Rattle.domain.specs.Parts.{partsReceived, partsReceivedBytes, lifted}
 use Rattle.rdmap.specs.declared.stream.Stream.{Stream}
 use Rattle.domain.specs.declared.Answer.{Answer}
 use Rattle.domain.specs.declared.Answer.the-variants.{Refused}
 use Rattle.domain.specs.declared.Domain.{Domain}
 use Rattle.domain.specs.declared.Received.{Received}
-use Rattle.domain.proofs.Lift.{parts-lifted, parts-bytes}
 use Rattle.rnic.specs.Rnic.{domainAt, noDomain, withDomain, withBytes, bytesOf, partFits, rnicReceived, rnicReceivedStore, receivedOwned, receivedOwnedStore}
 use Rattle.rnic.specs.declared.Rnic.{Rnic}
 use Rattle.rnic.specs.declared.RnicReceived.{RnicReceived}
@@ -38,6 +37,16 @@ slot-inside n = omega arith
 
 slot-below : (n : ℕ) → slotOf n ≤ 3
 slot-below n = omega arith
+
+-- receive of a domain, of one of its streams
+module _ (d : Domain) (number slot : ℕ) (input : List ℕ) (h : slot ≤ 3) where
+  parts-lifted : domainReceived d number slot input ≡ lifted d slot (partsReceived (d .windows) number (streamAt d slot) input)
+  unfolding domainReceived
+  parts-lifted = simp (le-leb slot 3 h)
+
+  parts-bytes : (bytes : List ℕ) → domainReceivedBytes d number slot input bytes ≡ partsReceivedBytes (d .part) (d .windows) number (streamAt d slot) input bytes
+  unfolding domainReceivedBytes
+  parts-bytes bytes = simp (le-leb slot 3 h)
 
 module _ (b : Rnic) where
   -- a domain with its windows and one stream exchanged, and the device with it
@@ -73,7 +82,7 @@ module _ (b : Rnic) where
 
     owned : (size : ℕ) → receivedOwned b size n input ≡ lift (n / 4) (n % 4) (keptOwnedAnswer (dom (n / 4) .part) (dom (n / 4) .windows) (str (n / 4)) size n input) (keptOwned (dom (n / 4) .part) (dom (n / 4) .windows) (str (n / 4)) size n input)
     unfolding receivedOwned
-    owned size = unless (partFits (dom (n / 4)) size) (n / 4) (n % 4) 9 _ (partsReceived (dom (n / 4) .windows) (n / 4) (str (n / 4)) input .answer) (changed (dom (n / 4) .windows) (partsReceived (dom (n / 4) .windows) (n / 4) (str (n / 4)) input))
+    owned size = unless (partFits (dom (n / 4) .part) size) (n / 4) (n % 4) 9 _ (partsReceived (dom (n / 4) .windows) (n / 4) (str (n / 4)) input .answer) (changed (dom (n / 4) .windows) (partsReceived (dom (n / 4) .windows) (n / 4) (str (n / 4)) input))
         (ap (λ (r : Received). record { answer = r .answer; rnic = withDomain b (n / 4) (r .domain) }) (parts-lifted (dom (n / 4)) (n / 4) (n % 4) input (slot-below n)))
 
     pub received-is : (size : ℕ) → rnicReceived b size n input ≡ lift (ownerOf n) (n % 4) (keptAnswer (dom (ownerOf n) .part) (dom (ownerOf n) .windows) (str (ownerOf n)) (b .len) size n input) (keptReceived (dom (ownerOf n) .part) (dom (ownerOf n) .windows) (str (ownerOf n)) (b .len) size n input)
@@ -89,7 +98,7 @@ module _ (b : Rnic) where
 
     owned-store : (mem : List ℕ) → receivedOwnedStore b n input mem ≡ keptOwnedStore (dom (n / 4) .part) (dom (n / 4) .windows) (str (n / 4)) n input mem
     unfolding receivedOwnedStore
-    owned-store mem = ap (λ (ys : List ℕ). pick (partFits (dom (n / 4)) (length mem)) (withBytes (dom (n / 4)) mem ys) mem) (parts-bytes (dom (n / 4)) (n / 4) (n % 4) input (bytesOf (dom (n / 4)) mem) (slot-below n))
+    owned-store mem = ap (λ (ys : List ℕ). pick (partFits (dom (n / 4) .part) (length mem)) (withBytes (dom (n / 4)) mem ys) mem) (parts-bytes (dom (n / 4)) (n / 4) (n % 4) input (slot-below n) (bytesOf (dom (n / 4)) mem))
 
     pub store-is : (mem : List ℕ) → rnicReceivedStore b n input mem ≡ keptStore (dom (ownerOf n) .part) (dom (ownerOf n) .windows) (str (ownerOf n)) (b .len) n input mem
     unfolding rnicReceivedStore keptStore

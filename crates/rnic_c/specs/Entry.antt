@@ -1,11 +1,10 @@
 -- Receive on what it needs of the owner's entry: what rnicReceived and rnicReceivedStore of the crate `rnic` make of a domain's part, its windows and one stream, the store's length beside them. proofs/Entries.antt shows that it is the device's receive.
 use Prim.Native.Nat.{ℕ, _/_, _%_, _-_}
-use mathlib.Core.Bool.{Bool}
 use mathlib.Core.List.{List}
 use lib.ListN.{length}
 use lib.Dec.{leb, eqb}
 use borrow.Rule.Slice.PartMut.{midOf, putMid}
-use Rattle.wire.specs.Wire.{pick, both}
+use Rattle.wire.specs.Wire.{pick}
 use Rattle.ddp.specs.declared.part.Part.{Part}
 use Rattle.ddp.specs.declared.window.Window.{Window}
 use Rattle.rdmap.specs.declared.stream.Stream.{Stream}
@@ -13,6 +12,7 @@ use Rattle.domain.specs.Parts.{partsReceived, partsReceivedBytes, killed}
 use Rattle.domain.specs.declared.Answer.{Answer}
 use Rattle.domain.specs.declared.Answer.the-variants.{Refused}
 use Rattle.domain.specs.declared.parts.PartsReceived.{PartsReceived}
+use Rattle.rnic.specs.Rnic.{partFits}
 use Rattle.rnic_c.specs.declared.entry.Kept.{Kept}
 
 -- the domain that owns a stream; a number that is no stream's is for none, and its entry is left as it was
@@ -23,10 +23,6 @@ ownerOf n = pick (leb n 15) (n / 4) 0
 abbrev pub slotOf : ℕ → ℕ
 slotOf n = n % 4
 
--- a part that lies in a store of this size
-abbrev pub liesIn : Part → ℕ → Bool
-liesIn p size = both (leb (p .start) (p .end)) (leb (p .end) size)
-
 -- the windows and the stream as they were, and after a receive
 abbrev pub unchanged : List Window → Stream → Kept
 unchanged ws s = record { windows = ws; stream = s }
@@ -35,14 +31,14 @@ abbrev pub changed : List Window → PartsReceived → Kept
 changed ws r = record { windows = killed (r .invalidate) ws; stream = r .stream }
 
 abbrev pub keptOwned : Part → List Window → Stream → ℕ → ℕ → List ℕ → Kept
-keptOwned p ws s size n input = pick (liesIn p size) (changed ws (partsReceived ws (n / 4) s input)) (unchanged ws s)
+keptOwned p ws s size n input = pick (partFits p size) (changed ws (partsReceived ws (n / 4) s input)) (unchanged ws s)
 
 abbrev pub keptOwnedAnswer : Part → List Window → Stream → ℕ → ℕ → List ℕ → Answer
-keptOwnedAnswer p ws s size n input = pick (liesIn p size) (partsReceived ws (n / 4) s input .answer) (Refused 9)
+keptOwnedAnswer p ws s size n input = pick (partFits p size) (partsReceived ws (n / 4) s input .answer) (Refused 9)
 
 abbrev pub keptOwnedStore : Part → List Window → Stream → ℕ → List ℕ → List ℕ → List ℕ
 keptOwnedStore p ws s n input mem =
-    pick (liesIn p (length mem))
+    pick (partFits p (length mem))
     (putMid (p .start) (p .end - p .start) mem (partsReceivedBytes p ws (n / 4) s input (midOf (p .start) (p .end - p .start) mem)))
     mem
 

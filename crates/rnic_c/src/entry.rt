@@ -3,7 +3,6 @@
 ghost use mathlib.Core.Path.{_≡_};
 ghost use lib.ListN.{length};
 ghost use Rattle.calls.specs.Words.{answerWords};
-ghost use Rattle.domain.specs.Parts.{killed};
 ghost use Rattle.rnic_c.specs.Entry.{
   ownerOf,
   slotOf,
@@ -18,8 +17,8 @@ use calls::words::answer_words;
 use calls::words::words;
 use ddp::part::Part;
 use ddp::window::Window;
+use domain::parts::kill;
 use domain::parts::receive_parts;
-use rdmap::message::Invalidate;
 use rdmap::stream::Stream;
 
 // What a receive leaves of the owner's entry: its windows and the one stream.
@@ -43,19 +42,6 @@ pub(crate) fn slot_of(stream: u64) -> usize
     ensures { λ r. ⌜ r ≡ slotOf stream ⌝ }
 {
     (stream % 4) as usize
-}
-
-// The windows with the one dead whose STag a Send invalidated.
-fn kill(windows: [Window; 16], which: Invalidate) -> [Window; 16]
-    ensures { λ r. ⌜ r ≡ killed which windows ⌝ }
-{
-    match which {
-        Invalidate::NoStag => windows,
-        Invalidate::Stag { slot, stag: _ } => {
-            let done = ddp::window::drop_window(windows, slot as u64);
-            done.windows
-        }
-    }
 }
 
 // Takes the first FPDU of bytes for a stream in range, with a store of the right length.

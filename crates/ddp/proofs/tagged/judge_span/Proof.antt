@@ -18,15 +18,13 @@ enum-told-2 : tie.Need-enum-told-2
 enum-told-2 c = search needs
 
 returns : tie.Need-returns
-returns c =
-    ap (taggedIn (c .before .before .before .before .args .slot)) (sym (c .before .place .given .1)
-    ∙ c .before .before .before .span-of .ensures)
+returns c = ap taggedIn (sym (c .before .place .given .1) ∙ c .before .before .before .span-of .ensures)
 
 returns-2 : tie.Need-returns-2
-returns-2 c = ap (taggedIn (c .before .before .before .args .slot)) (sym (c .enum-told .given .1) ∙ c .before .before .span-of .ensures)
+returns-2 c = ap taggedIn (sym (c .enum-told .given .1) ∙ c .before .before .span-of .ensures)
 
 returns-3 : tie.Need-returns-3
-returns-3 c = ap (taggedIn (c .before .before .before .args .slot)) (sym (c .enum-told2 .given .1) ∙ c .before .before .span-of .ensures)
+returns-3 c = ap taggedIn (sym (c .enum-told2 .given .1) ∙ c .before .before .span-of .ensures)
 
 pub judge-span-spec : {M : Type 1} → statement M
 judge-span-spec =

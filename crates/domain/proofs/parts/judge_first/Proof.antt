@@ -7,6 +7,7 @@ use native.Mathlib.Nat.{add-sub-cancel-left}
 use native.Mathlib.Omega.{arith}
 use lib.ListN.{length, take, drop}
 use Rattle.wire.specs.Wire.{part}
+use Rattle.ddp.specs.Window.{windowAt}
 use Rattle.ddp.specs.Untagged.{untaggedOf}
 use Rattle.ddp.specs.declared.part.Part.{Part}
 use Rattle.ddp.specs.declared.header.UntaggedHeader.{UntaggedHeader}
@@ -15,8 +16,7 @@ use Rattle.ddp.specs.declared.segment.SegmentRead.{SegmentRead}
 use Rattle.rdmap.specs.declared.stream.Stream.{Stream}
 use Rattle.rdmap.specs.Message.{queuesOf, untaggedVerdict}
 use Rattle.rdmap.specs.declared.message.Verdict.{Verdict}
-use Rattle.domain.specs.Domain.{appliedBytes}
-use Rattle.domain.specs.Parts.{partsJudged, partsPlaced}
+use Rattle.domain.specs.Parts.{appliedBytes, taggedVerdict, partsJudged, partsPlaced}
 use Rattle.domain.specs.declared.parts.Judged.{Judged}
 use Rattle.domain.specs.declared.parts.Judged.the-variants.{Fpdu}
 use Rattle.domain.proofs.Inside.{inside}
@@ -74,6 +74,15 @@ enum-known-total c = search needs
 add-end : tie.Need-add-end
 add-end c = omega (arith, tagged-ends (c .before))
 
+slot-named-requires : tie.Need-slot-named-requires
+slot-named-requires c κs = search needs
+
+mul-w : tie.Need-mul-w
+mul-w c = search needs
+
+array-copy-out-w : tie.Need-array-copy-out-w
+array-copy-out-w c = search needs
+
 judge-tagged-segment-requires : tie.Need-judge-tagged-segment-requires
 judge-tagged-segment-requires c κs = search needs
 
@@ -84,7 +93,7 @@ part-place-by-start : tie.Need-part-place-by-start
 part-place-by-start c = search needs
 
 part-place-by-end : tie.Need-part-place-by-end
-part-place-by-end c = omega (arith, tagged-ends (c .before .before .before))
+part-place-by-end c = omega (arith, tagged-ends (c .before .before .before .before .before))
 
 place-by-requires : tie.Need-place-by-requires
 place-by-requires c κs = search needs
@@ -122,14 +131,14 @@ place-by-requires-2 c κs = search needs
 returns : tie.Need-returns
 returns c =
     let a = c .before .before .before .before .before .before .args in
-    answers (a .part) (a .windows) (a .number) (a .s) (a .bytes .now) (a .store .now)
+    answers (a .part) (a .t2) (a .number) (a .s) (a .bytes .now) (a .store .now)
     (sym (c .before .n .given .1) ∙ c .before .before .before .read-segment .ensures)
     (refl, refl)
 
 returns-2 : tie.Need-returns-2
 returns-2 c =
     let a = c .before .before .before .before .before .before .args in
-    answers (a .part) (a .windows) (a .number) (a .s) (a .bytes .now) (a .store .now)
+    answers (a .part) (a .t2) (a .number) (a .s) (a .bytes .now) (a .store .now)
     (sym (c .before .refusal .given .1) ∙ c .before .before .before .read-segment .ensures)
     (refl, refl)
 
@@ -138,13 +147,14 @@ same-length c = search needs
 
 returns-3 : tie.Need-returns-3
 returns-3 c =
-    let t = c .before .before .before .before .before .before .before in
+    let t = c .before .before .before .before .before .before .before .before .before in
     let a = t .before .before .before .before .before .args in
     let g = t .total .given in
-    answers (a .part) (a .windows) (a .number) (a .s) (a .bytes .now) (a .store .now)
+    answers (a .part) (a .t2) (a .number) (a .s) (a .bytes .now) (a .store .now)
     (sym (g .1) ∙ t .before .before .read-segment .ensures)
-    (judged (a .part) (a .windows) (a .number) (a .s) (a .bytes .now) (a .store .now) (g .0 .0) (g .0 .1 .1 .0) (g .0 .1 .1 .1 .0)
-    (c .before .before .before .before .before .judge-tagged-segment .ensures)
+    (judged (a .part) (a .t2) (a .number) (a .s) (a .bytes .now) (a .store .now) (g .0 .0) (g .0 .1 .1 .0) (g .0 .1 .1 .1 .0)
+    (c .before .before .before .before .before .judge-tagged-segment .ensures
+    ∙ ap (λ (n : ℕ). taggedVerdict (windowAt (a .t2) n) (a .number) (g .0 .1 .0) (g .0 .1 .1 .1 .0)) (c .before .before .before .before .before .before .before .slot-named .ensures))
     (c .before .before .place-by .ensures))
 
 same-length-2 : tie.Need-same-length-2
@@ -155,11 +165,11 @@ returns-4 c =
     let t = c .before .before .before .before .before .before .before .before in
     let a = t .before .before .before .before .before .args in
     let g = t .total2 .given in
-    answers (a .part) (a .windows) (a .number) (a .s) (a .bytes .now) (a .store .now)
+    answers (a .part) (a .t2) (a .number) (a .s) (a .bytes .now) (a .store .now)
     (sym (g .1) ∙ t .before .before .read-segment .ensures)
-    (judged (a .part) (a .windows) (a .number) (a .s) (a .bytes .now) (a .store .now) (g .0 .0) (g .0 .1 .1 .0) (g .0 .1 .1 .1 .0)
+    (judged (a .part) (a .t2) (a .number) (a .s) (a .bytes .now) (a .store .now) (g .0 .0) (g .0 .1 .1 .0) (g .0 .1 .1 .1 .0)
     (c .before .before .before .before .before .judge-untagged-segment .ensures
-    ∙ ap (untagged (a .windows) (a .number) (a .s) (g .0 .1 .0)) (lent (a .bytes .now) (g .0 .1 .1 .0) (g .0 .1 .1 .1 .0)))
+    ∙ ap (untagged (a .t2) (a .number) (a .s) (g .0 .1 .0)) (lent (a .bytes .now) (g .0 .1 .1 .0) (g .0 .1 .1 .1 .0)))
     (c .before .before .place-by2 .ensures))
 
 pub judge-first-spec : {M : Type 1} → statement M
@@ -171,6 +181,9 @@ judge-first-spec =
     enum-known-refusal
     enum-known-total
     add-end
+    slot-named-requires
+    mul-w
+    array-copy-out-w
     judge-tagged-segment-requires
     sub-place-by
     part-place-by-start

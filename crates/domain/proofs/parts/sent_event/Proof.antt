@@ -1,6 +1,6 @@
 -- `sent_event` meets its contract: each arm is a case of `sentEvent`.
 use mathlib.Core.Path.{sym, ap}
-use Rattle.domain.specs.Domain.{sentEvent}
+use Rattle.domain.specs.Parts.{sentEvent}
 use borrow.Author.Needs.{needs}
 use Rattle.domain.proofs.parts.sent_event.Statement.{statement}
 use Rattle.domain.proofs.parts.sent_event.Tie as tie

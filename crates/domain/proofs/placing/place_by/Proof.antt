@@ -2,7 +2,7 @@
 use Prim.Native.Nat.{ℕ}
 use mathlib.Core.List.{List}
 use mathlib.Core.Path.{_≡_, sym, ap, _∙_}
-use Rattle.domain.specs.Domain.{appliedBytes}
+use Rattle.domain.specs.Parts.{appliedBytes}
 use Rattle.rdmap.specs.declared.message.Verdict.{Verdict}
 use borrow.Author.Needs.{needs}
 use Rattle.domain.proofs.placing.place_by.Statement.{statement}

@@ -1,6 +1,6 @@
 -- `place_from` meets its contract: the test picks the case of `placedFrom`, and `place` gives the bytes.
 use borrow.Author.Tests.{le-leb, lt-leb}
-use Rattle.domain.specs.Domain.{placedFrom}
+use Rattle.domain.specs.Parts.{placedFrom}
 use borrow.Author.Needs.{needs}
 use Rattle.domain.proofs.placing.place_from.Statement.{statement}
 use Rattle.domain.proofs.placing.place_from.Tie as tie

@@ -14,7 +14,7 @@ judge-write-requires c κs = search needs
 returns : tie.Need-returns
 returns c =
     let a = c .before .before .args in
-    c .judge-write .ensures ∙ ap (writeVerdict (a .windows) (a .h .control)) (c .before .judge-tagged .ensures)
+    c .judge-write .ensures ∙ ap (writeVerdict (a .w) (a .h .control)) (c .before .judge-tagged .ensures)
 
 pub judge-tagged-segment-spec : {M : Type 1} → statement M
 judge-tagged-segment-spec = tie.close (tie.spec judge-tagged-requires judge-write-requires returns)

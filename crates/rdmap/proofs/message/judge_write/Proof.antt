@@ -22,9 +22,6 @@ unless-refused-requires c κs = search needs
 enum-known-tagged-2 : tie.Need-enum-known-tagged-2
 enum-known-tagged-2 c = search needs
 
-window-of-requires : tie.Need-window-of-requires
-window-of-requires c κs = search needs
-
 judge-right-requires : tie.Need-judge-right-requires
 judge-right-requires c κs = search needs
 
@@ -34,21 +31,21 @@ unless-refused-requires-2 c κs = search needs
 returns : tie.Need-returns
 returns c =
     let a = c .before .before .before .before .args in
-    ap (writeVerdict (a .windows) (a .control)) (sym (c .before .tagged .given .1))
+    ap (writeVerdict (a .w) (a .control)) (sym (c .before .tagged .given .1))
 
 returns-2 : tie.Need-returns-2
 returns-2 c =
     let a = c .before .before .before .before .args in
     c .unless-refused .ensures
     ∙ ap (λ (g : Control). after g Nothing) (c .before .before .before .judge-control .ensures)
-    ∙ ap (writeVerdict (a .windows) (a .control)) (sym (c .before .enum-told .given .1))
+    ∙ ap (writeVerdict (a .w) (a .control)) (sym (c .before .enum-told .given .1))
 
 returns-3 : tie.Need-returns-3
 returns-3 c =
-    let a = c .before .before .before .before .before .before .before .args in
-    let control = c .before .before .before .before .before .before .judge-control in
-    simp (control .ensures, c .before .judge-right .ensures, c .before .before .window-of .ensures) at (c .unless-refused2 .ensures)
-    ∙ ap (writeVerdict (a .windows) (a .control)) (sym (c .before .before .before .before .tagged2 .given .1))
+    let a = c .before .before .before .before .before .before .args in
+    let control = c .before .before .before .before .before .judge-control in
+    simp (control .ensures, c .before .judge-right .ensures) at (c .unless-refused2 .ensures)
+    ∙ ap (writeVerdict (a .w) (a .control)) (sym (c .before .before .before .tagged2 .given .1))
 
 pub judge-write-spec : {M : Type 1} → statement M
 judge-write-spec =
@@ -59,7 +56,6 @@ judge-write-spec =
     enum-told
     unless-refused-requires
     enum-known-tagged-2
-    window-of-requires
     judge-right-requires
     unless-refused-requires-2
     returns

@@ -1,4 +1,4 @@
--- `receive_owned` meets its contract: the two tests are those of `liesIn`, and the rest is what `receive_parts` gives.
+-- `receive_owned` meets its contract: the two tests are those of `partFits`, and the rest is what `receive_parts` gives.
 use mathlib.Core.Path.{ap, _∙_}
 use borrow.Author.Tests.{le-leb, lt-leb}
 use Rattle.calls.specs.Words.{answerWords}

@@ -1,9 +1,9 @@
 -- `kill` meets its contract: each arm is a case of `killed`, and the windows are what `drop_window` gives.
 use mathlib.Core.Path.{sym, ap}
 use Rattle.domain.specs.Parts.{killed}
 use borrow.Author.Needs.{needs}
-use Rattle.rnic_c.proofs.entry.kill.Statement.{statement}
-use Rattle.rnic_c.proofs.entry.kill.Tie as tie
+use Rattle.domain.proofs.parts.kill.Statement.{statement}
+use Rattle.domain.proofs.parts.kill.Tie as tie
 
 enum-told : tie.Need-enum-told
 enum-told c = search needs
