@@ -13,13 +13,13 @@ use crate::args::room;
 use crate::args::word;
 use mpa::FpduRead;
 use mpa::StartupRead;
-use mpa::Written;
 use mpa::fpdu::read_fpdu;
 use mpa::fpdu::write_fpdu;
 use mpa::startup::read_startup;
 use mpa::startup::write_startup;
 use script::number::Number;
 use script::number::read_number;
+use wire::Written;
 ghost use Prim.Native.Nat.{_≤_};
 ghost use lib.ListN.{length};
 

@@ -10,8 +10,8 @@ use Rattle.ddp.specs.declared.header.TaggedHeader.{TaggedHeader}
 use Rattle.ddp.specs.declared.header.UntaggedHeader.{UntaggedHeader}
 use Rattle.ddp.specs.declared.header.HeaderRead.{HeaderRead}
 use Rattle.ddp.specs.declared.header.HeaderRead.the-variants.{Tagged, Untagged, Refused}
-use Rattle.mpa.specs.declared.Written.{Written}
-use Rattle.mpa.specs.declared.Written.the-variants.{Length, Refused as NotWritten}
+use Rattle.wire.specs.declared.Written.{Written}
+use Rattle.wire.specs.declared.Written.the-variants.{Length, Refused as NotWritten}
 
 -- "byte 0 has T 0x80, L 0x40, version in the low two bits, which is 1"; reserved bits are not looked at
 abbrev pub taggedBit : ℕ → Bool

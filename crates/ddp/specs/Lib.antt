@@ -6,4 +6,3 @@ pub mod Refusal
 pub mod Tagged
 pub mod Untagged
 pub mod Header
-pub mod Segment

@@ -20,7 +20,7 @@ use crate::refusal::Refusal;
 use crate::refusal::SEGMENT_TOO_SHORT;
 use crate::refusal::TAGGED_VERSION;
 use crate::refusal::UNTAGGED_VERSION;
-use mpa::Written;
+use wire::Written;
 
 // The header of a tagged segment. control is the byte that RDMAP keeps there, and is only passed on.
 pub struct TaggedHeader {

@@ -1,4 +1,4 @@
-// DDP (RFC 5041): the placement layer, between the framing of `mpa` and the messages of `rdmap`.
+// DDP (RFC 5041): the placement layer, below the messages of `rdmap`.
 // It reads and writes segment headers, judges where a payload may go (rules 22 to 32) and places it
 // there. Nothing is changed while anything is judged.
 //
@@ -10,7 +10,6 @@ pub mod header;
 pub mod part;
 pub mod place;
 pub mod refusal;
-pub mod segment;
 pub mod tagged;
 pub mod untagged;
 pub mod window;

@@ -9,11 +9,11 @@ use Rattle.ddp.specs.Window.{windowAt, dropped, slotNamed}
 use Rattle.ddp.specs.Tagged.{taggedOf}
 use Rattle.ddp.specs.Untagged.{untaggedOf}
 use Rattle.ddp.specs.Place.{placed}
-use Rattle.ddp.specs.Segment.{segmentRead}
+use Rattle.segment.specs.Segment.{segmentRead}
 use Rattle.ddp.specs.declared.part.Part.{Part}
 use Rattle.ddp.specs.declared.header.TaggedHeader.{TaggedHeader}
-use Rattle.ddp.specs.declared.segment.SegmentRead.{SegmentRead}
-use Rattle.ddp.specs.declared.segment.SegmentRead.the-variants.{Wait as SegmentWait, Refused as SegmentRefused, Tagged as TaggedSegment, Untagged as UntaggedSegment}
+use Rattle.segment.specs.declared.SegmentRead.{SegmentRead}
+use Rattle.segment.specs.declared.SegmentRead.the-variants.{Wait as SegmentWait, Refused as SegmentRefused, Tagged as TaggedSegment, Untagged as UntaggedSegment}
 use Rattle.ddp.specs.declared.window.Window.{Window}
 use Rattle.rdmap.specs.Message.{writeVerdict, queuesOf, untaggedVerdict}
 use Rattle.rdmap.specs.Stream.{readiness, endedBy, terminatedBy, sendingOn, sentOn, queuedOn}

@@ -16,13 +16,11 @@ ghost use Rattle.domain.specs.Parts.{
   partsReceivedBytes,
   killed,
 };
-ghost use Rattle.ddp.specs.Segment.{segmentRead};
+ghost use Rattle.segment.specs.Segment.{segmentRead};
 use crate::Answer;
 use crate::Event;
 use crate::placing::place_by;
 use ddp::part::Part;
-use ddp::segment::SegmentRead;
-use ddp::segment::read_segment;
 use ddp::window::Window;
 use ddp::window::slot_named;
 use rdmap::message::Invalidate;
@@ -31,6 +29,8 @@ use rdmap::message::judge_tagged_segment;
 use rdmap::message::judge_untagged_segment;
 use rdmap::stream::Readiness;
 use rdmap::stream::Stream;
+use segment::SegmentRead;
+use segment::read_segment;
 
 // What receive answers, the stream after it, and the window that is then dead.
 pub struct PartsReceived {

@@ -16,7 +16,7 @@ use Rattle.ddp.specs.Part.{inPart}
 use Rattle.ddp.specs.Window.{inRange, windowFits, registered, dropped, named, foundIn, wraps, spanned}
 use Rattle.ddp.specs.Buffer.{posted, poppedOf}
 use Rattle.ddp.specs.Header.{taggedFields, untaggedFields, taggedRead, untaggedRead, headerRead}
-use Rattle.ddp.specs.Segment.{segmentRead}
+use Rattle.segment.specs.Segment.{segmentRead}
 use Rattle.ddp.specs.Tagged.{taggedOf}
 use Rattle.ddp.specs.Untagged.{untaggedIn, untaggedOf, nextMsn}
 use Rattle.ddp.specs.Place.{fits, placed}

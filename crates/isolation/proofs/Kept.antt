@@ -9,10 +9,10 @@ use borrow.Author.Tests.{leb-true}
 use Rattle.wire.specs.Wire.{pick, part}
 use Rattle.wire.proofs.Laws.{length-put}
 use Rattle.ddp.specs.Place.{fits, placed}
-use Rattle.ddp.specs.Segment.{segmentRead}
+use Rattle.segment.specs.Segment.{segmentRead}
 use Rattle.ddp.specs.declared.part.Part.{Part}
-use Rattle.ddp.specs.declared.segment.SegmentRead.{SegmentRead}
-use Rattle.ddp.specs.declared.segment.SegmentRead.the-variants.{Wait, Refused as SegmentRefused, Tagged, Untagged}
+use Rattle.segment.specs.declared.SegmentRead.{SegmentRead}
+use Rattle.segment.specs.declared.SegmentRead.the-variants.{Wait, Refused as SegmentRefused, Tagged, Untagged}
 use Rattle.ddp.specs.declared.window.Window.{Window}
 use Rattle.rdmap.specs.Stream.{readiness}
 use Rattle.rdmap.specs.declared.message.Verdict.{Verdict}

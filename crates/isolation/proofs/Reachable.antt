@@ -20,14 +20,14 @@ use Rattle.ddp.specs.Tagged.{taggedOf}
 use Rattle.ddp.specs.Untagged.{untaggedIn, untaggedOf}
 use Rattle.ddp.specs.Place.{fits, placed}
 use Rattle.ddp.specs.Refusal.{invalidMsn, noBufferWaits, invalidMo, messageTooLong}
-use Rattle.ddp.specs.Segment.{segmentRead}
+use Rattle.segment.specs.Segment.{segmentRead}
 use Rattle.ddp.specs.declared.part.Part.{Part}
 use Rattle.ddp.specs.declared.buffer.Buffer.{Buffer}
 use Rattle.ddp.specs.declared.buffer.Buffers.{Buffers}
 use Rattle.ddp.specs.declared.buffer.Posted.{Posted}
 use Rattle.ddp.specs.declared.header.UntaggedHeader.{UntaggedHeader}
-use Rattle.ddp.specs.declared.segment.SegmentRead.{SegmentRead}
-use Rattle.ddp.specs.declared.segment.SegmentRead.the-variants.{Wait, Refused as SegmentRefused, Tagged as TaggedSegment, Untagged as UntaggedSegment}
+use Rattle.segment.specs.declared.SegmentRead.{SegmentRead}
+use Rattle.segment.specs.declared.SegmentRead.the-variants.{Wait, Refused as SegmentRefused, Tagged as TaggedSegment, Untagged as UntaggedSegment}
 use Rattle.ddp.specs.declared.tagged.Tagged.{Tagged}
 use Rattle.ddp.specs.declared.tagged.Tagged.the-variants.{Nowhere, At as TaggedAt, Refused as TaggedRefused}
 use Rattle.ddp.specs.declared.untagged.Untagged.{Untagged}

@@ -10,8 +10,8 @@ use Rattle.wire.specs.Wire.{put, be16, le32}
 use Rattle.wire.proofs.Laws.{put-put, put-start, take-put, set-2, length-put}
 use Rattle.crc32c.specs.Crc.{crcOf}
 use Rattle.mpa.specs.Fpdu.{padOf, coveredOf, totalOf, covered, fpduOf, outAfter}
-use Rattle.mpa.specs.declared.Written.{Written}
-use Rattle.mpa.specs.declared.Written.the-variants.{Length, Refused}
+use Rattle.wire.specs.declared.Written.{Written}
+use Rattle.wire.specs.declared.Written.the-variants.{Length, Refused}
 use Rattle.mpa.specs.Startup.{keyOf, flagsOf, startupOf}
 
 pub length-covered : (u : List ℕ) → length (covered u) ≡ coveredOf (length u)

@@ -13,8 +13,8 @@ use borrow.Author.Tests.{ltb-false, le-ltb, eq-eqb}
 use Rattle.wire.specs.Wire.{pick, both, part, be16At, le32, le32At}
 use Rattle.crc32c.specs.Crc.{crcOf}
 use Rattle.mpa.specs.Fpdu.{maxUlpdu, padOf, coveredOf, totalOf, covered, fpduOf, fpduWritten, outAfter, fpduOut, fpduReadOf, fpduRead, crcRight}
-use Rattle.mpa.specs.declared.Written.{Written}
-use Rattle.mpa.specs.declared.Written.the-variants.{Length, Refused as NotWritten}
+use Rattle.wire.specs.declared.Written.{Written}
+use Rattle.wire.specs.declared.Written.the-variants.{Length, Refused as NotWritten}
 use Rattle.mpa.specs.declared.FpduRead.the-variants.{Wait, Taken}
 use Rattle.wire.proofs.Laws.{le32At-agree, agree-append, le32At-le32}
 use Rattle.crc32c.proofs.Range.{crc-lt}

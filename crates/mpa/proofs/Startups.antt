@@ -13,8 +13,8 @@ use Rattle.wire.specs.Wire.{pick, both, same, part, be16, be16At}
 use Rattle.wire.proofs.Laws.{Bytes, be16-be16At, part-add, part-one, length-part, same-refl, same-eq, both-true}
 use Rattle.mpa.specs.Startup.{maxPrivate, keyOf, flagsOf, flagM, flagC, flagR, startupOf, startupWritten, startupOut, headRight, startupTaken, startupRead}
 use Rattle.mpa.specs.Fpdu.{outAfter}
-use Rattle.mpa.specs.declared.Written.{Written}
-use Rattle.mpa.specs.declared.Written.the-variants.{Length, Refused as NotWritten}
+use Rattle.wire.specs.declared.Written.{Written}
+use Rattle.wire.specs.declared.Written.the-variants.{Length, Refused as NotWritten}
 use Rattle.mpa.specs.declared.StartupRead.the-variants.{Wait, Refused, Taken}
 
 -- the flags that are written are read back, and ask for no markers

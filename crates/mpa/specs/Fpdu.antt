@@ -6,8 +6,8 @@ use lib.ListN.{length, take, drop, replicate}
 use lib.Dec.{ltb, eqb}
 use Rattle.wire.specs.Wire.{pick, both, be16, be16At, le32, le32At}
 use Rattle.crc32c.specs.Crc.{crcOf}
-use Rattle.mpa.specs.declared.Written.{Written}
-use Rattle.mpa.specs.declared.Written.the-variants.{Length, Refused as NotWritten}
+use Rattle.wire.specs.declared.Written.{Written}
+use Rattle.wire.specs.declared.Written.the-variants.{Length, Refused as NotWritten}
 use Rattle.mpa.specs.declared.FpduRead.{FpduRead}
 use Rattle.mpa.specs.declared.FpduRead.the-variants.{Wait, Refused, Taken}
 

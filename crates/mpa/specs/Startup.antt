@@ -6,8 +6,8 @@ use lib.ListN.{length, take, getD}
 use lib.Dec.{ltb, leb, eqb}
 use Rattle.wire.specs.Wire.{pick, both, same, be16, be16At}
 use Rattle.mpa.specs.Fpdu.{outAfter}
-use Rattle.mpa.specs.declared.Written.{Written}
-use Rattle.mpa.specs.declared.Written.the-variants.{Length, Refused as NotWritten}
+use Rattle.wire.specs.declared.Written.{Written}
+use Rattle.wire.specs.declared.Written.the-variants.{Length, Refused as NotWritten}
 use Rattle.mpa.specs.declared.StartupRead.{StartupRead}
 use Rattle.mpa.specs.declared.StartupRead.the-variants.{Wait, Refused, Taken}
 

@@ -1,11 +1,11 @@
 // FPDUs (RFC 5044, section 4): ULPDU length, ULPDU, pad, CRC.
 use crate::FpduRead;
-use crate::Written;
 use crate::refusal::NO_ROOM;
 use crate::refusal::OVER_LIMIT;
 use crate::refusal::ULPDU_OVER_LIMIT;
 use crate::refusal::WRONG_CRC;
 use crc32c::crc32c;
+use wire::Written;
 use wire::copy::clear;
 use wire::copy::copy;
 use wire::number::get_be16;

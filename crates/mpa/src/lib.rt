@@ -2,18 +2,12 @@
 // (startup, section 7.1), each written and read. A writer fills a slice that the caller lends; a
 // reader says what it found at the start of the bytes at hand, or how many it waits for.
 //
-// Read `Written`, `FpduRead` and `StartupRead` first: they are the answers. The definitions that
+// Read `FpduRead` and `StartupRead` first: with `Written` of `wire` they are the answers. The definitions that
 // the contracts cite are in specs/Fpdu.antt and specs/Startup.antt, the refusals' numbers in
 // refusal. No public function has a `requires`: each answers whatever comes.
 pub mod fpdu;
 pub mod refusal;
 pub mod startup;
-
-// What a writer answers: the frame's length, or a refusal, and then the slice keeps its bytes.
-pub enum Written {
-    Length(usize),
-    Refused(u8),
-}
 
 // What the first FPDU of some bytes is: not whole yet, with the number of bytes to wait for;
 // refused; or whole, with its length and where in it the ULPDU lies.

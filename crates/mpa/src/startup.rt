@@ -1,11 +1,11 @@
 // Startup frames (RFC 5044, section 7.1): key, flags, revision, private data length, private data.
 use crate::StartupRead;
-use crate::Written;
 use crate::refusal::BAD_STARTUP;
 use crate::refusal::MARKERS;
 use crate::refusal::NO_ROOM;
 use crate::refusal::OUT_OF_RANGE;
 use crate::refusal::OVER_LIMIT;
+use wire::Written;
 use wire::copy::copy;
 use wire::copy::same;
 use wire::number::get_be16;

@@ -24,8 +24,8 @@ use Rattle.segment_reader.proofs.header.Queue.Laws as Queue′
 use Rattle.segment_reader.proofs.reader.byte.Key.{name as #byte}
 use Rattle.segment_reader.proofs.reader.be32.Key.{name as #be32}
 use Rattle.segment_reader.proofs.reader.be64.Key.{name as #be64}
-use Rattle.segment_reader.proofs.segment.start.Key.{name as #start}
-use Rattle.segment_reader.proofs.segment.queue.Key.{name as #queue}
+use Rattle.segment_reader.proofs.ulpdu.start.Key.{name as #start}
+use Rattle.segment_reader.proofs.ulpdu.queue.Key.{name as #queue}
 
 abbrev pub byte : Field
 byte = record { row = Byte.the-row; ty = Byte′.mir; stands = byteField; name = #byte }

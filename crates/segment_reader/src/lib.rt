@@ -7,4 +7,4 @@
 pub mod field;
 pub mod header;
 pub mod reader;
-pub mod segment;
+pub mod ulpdu;

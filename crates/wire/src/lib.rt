@@ -6,3 +6,10 @@
 // the lengths, as its `requires` asks.
 pub mod copy;
 pub mod number;
+
+// What a writer of frames or headers answers: the length of what it wrote, or a refusal, and then the
+// slice keeps its bytes.
+pub enum Written {
+    Length(usize),
+    Refused(u8),
+}

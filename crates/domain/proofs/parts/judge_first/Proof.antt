@@ -12,7 +12,7 @@ use Rattle.ddp.specs.Untagged.{untaggedOf}
 use Rattle.ddp.specs.declared.part.Part.{Part}
 use Rattle.ddp.specs.declared.header.UntaggedHeader.{UntaggedHeader}
 use Rattle.ddp.specs.declared.window.Window.{Window}
-use Rattle.ddp.specs.declared.segment.SegmentRead.{SegmentRead}
+use Rattle.segment.specs.declared.SegmentRead.{SegmentRead}
 use Rattle.rdmap.specs.declared.stream.Stream.{Stream}
 use Rattle.rdmap.specs.Message.{queuesOf, untaggedVerdict}
 use Rattle.rdmap.specs.declared.message.Verdict.{Verdict}

@@ -15,8 +15,8 @@ use Rattle.segment_reader.proofs.reader.skipped.Symbol as skipped-def
 use Rattle.segment_reader.proofs.reader.skipped.Met as skipped-thm
 use Rattle.segment_reader.proofs.header.start_of.Symbol as start-of-def
 use Rattle.segment_reader.proofs.header.start_of.Met as start-of-thm
-use Rattle.segment_reader.proofs.segment.start.Statement as stated
-use Rattle.segment_reader.proofs.segment.start.Code as code
+use Rattle.segment_reader.proofs.ulpdu.start.Statement as stated
+use Rattle.segment_reader.proofs.ulpdu.start.Code as code
 
 pub start-spec : {M : Type 1} → stated.statement M
 unfolding code.routine

@@ -7,13 +7,13 @@ use Rattle.wire.specs.Wire.{pick, part}
 use Rattle.mpa.specs.Fpdu.{fpduRead}
 use Rattle.mpa.specs.declared.FpduRead.{FpduRead}
 use Rattle.mpa.specs.declared.FpduRead.the-variants.{Wait as FpduWait, Refused as FpduRefused, Taken}
 use Rattle.ddp.specs.Refusal.{ulpduTooLong, crcError}
 use Rattle.ddp.specs.Header.{headerRead}
 use Rattle.ddp.specs.declared.refusal.Refusal.{Refusal}
 use Rattle.ddp.specs.declared.header.HeaderRead.{HeaderRead}
 use Rattle.ddp.specs.declared.header.HeaderRead.the-variants.{Tagged, Untagged, Refused}
-use Rattle.ddp.specs.declared.segment.SegmentRead.{SegmentRead}
-use Rattle.ddp.specs.declared.segment.SegmentRead.the-variants.{Wait, Refused as SegmentRefused, Tagged as TaggedSegment, Untagged as UntaggedSegment}
+use Rattle.segment.specs.declared.SegmentRead.{SegmentRead}
+use Rattle.segment.specs.declared.SegmentRead.the-variants.{Wait, Refused as SegmentRefused, Tagged as TaggedSegment, Untagged as UntaggedSegment}
 
 -- the framing layer gives 20 and 21
 abbrev pub framing : ℕ → Refusal

@@ -13,8 +13,8 @@ use Rattle.segment_reader.proofs.reader.skipped.Symbol as skipped-def
 use Rattle.segment_reader.proofs.reader.skipped.Met as skipped-thm
 use Rattle.segment_reader.proofs.header.queue_of.Symbol as queue-of-def
 use Rattle.segment_reader.proofs.header.queue_of.Met as queue-of-thm
-use Rattle.segment_reader.proofs.segment.queue.Statement as stated
-use Rattle.segment_reader.proofs.segment.queue.Code as code
+use Rattle.segment_reader.proofs.ulpdu.queue.Statement as stated
+use Rattle.segment_reader.proofs.ulpdu.queue.Code as code
 
 pub queue-spec : {M : Type 1} → stated.statement M
 unfolding code.routine

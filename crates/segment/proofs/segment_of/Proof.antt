@@ -6,13 +6,13 @@ use native.Mathlib.Nat.{add-sub-cancel-left}
 use lib.ListN.{take, drop}
 use Rattle.wire.specs.Wire.{part}
 use Rattle.wire.proofs.Laws.{length-part}
 use Rattle.ddp.specs.Header.{headerRead}
-use Rattle.ddp.specs.Segment.{segmentOf}
+use Rattle.segment.specs.Segment.{segmentOf}
 use Rattle.ddp.proofs.Segments.{tagged-from, untagged-from}
 use borrow.Author.Needs.{needs}
 use native.Mathlib.Omega.{arith}
-use Rattle.ddp.proofs.segment.segment_of.Statement.{statement}
-use Rattle.ddp.proofs.segment.segment_of.Tie as tie
+use Rattle.segment.proofs.segment_of.Statement.{statement}
+use Rattle.segment.proofs.segment_of.Tie as tie
 
 -- what `read_header` gives is the header of the ULPDU
 read : (bytes : List ℕ) (start len : ℕ) → headerRead (take (start + len - start) (drop start bytes)) ≡ headerRead (part bytes start len)

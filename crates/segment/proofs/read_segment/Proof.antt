@@ -1,11 +1,11 @@
 -- `read_segment` meets its contract, by that of the framing layer: each arm has what `fpduRead` gives.
 use mathlib.Core.Path.{sym, ap, _∙_}
-use Rattle.ddp.specs.Segment.{segmentFrom, segmentRead}
-use Rattle.ddp.specs.declared.segment.SegmentRead.the-variants.{Refused}
+use Rattle.segment.specs.Segment.{segmentFrom, segmentRead}
+use Rattle.segment.specs.declared.SegmentRead.the-variants.{Refused}
 use Rattle.mpa.proofs.Taken.{ulpdu-inside}
 use borrow.Author.Needs.{needs}
-use Rattle.ddp.proofs.segment.read_segment.Statement.{statement}
-use Rattle.ddp.proofs.segment.read_segment.Tie as tie
+use Rattle.segment.proofs.read_segment.Statement.{statement}
+use Rattle.segment.proofs.read_segment.Tie as tie
 
 read-fpdu-requires : tie.Need-read-fpdu-requires
 read-fpdu-requires c κs = search needs

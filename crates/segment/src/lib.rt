@@ -1,16 +1,17 @@
-// Segments: the first FPDU of some bytes, as a DDP segment (rules 20 to 23).
+// Segments: the first FPDU of some bytes, as a DDP segment (rules 20 to 23). Here the framing of `mpa` and
+// the headers of `ddp` meet, which know nothing of each other. Read `SegmentRead` first.
 ghost use mathlib.Core.Path.{_≡_};
 ghost use Prim.Native.Nat.{_+_, _≤_};
 ghost use lib.ListN.{length};
 ghost use Rattle.wire.specs.Wire.{part};
 ghost use Rattle.ddp.specs.Header.{headerRead};
-ghost use Rattle.ddp.specs.Segment.{framing, segmentOf, segmentRead};
-use crate::header::HeaderRead;
-use crate::header::TaggedHeader;
-use crate::header::UntaggedHeader;
-use crate::refusal::CRC_ERROR;
-use crate::refusal::Refusal;
-use crate::refusal::ULPDU_TOO_LONG;
+ghost use Rattle.segment.specs.Segment.{framing, segmentOf, segmentRead};
+use ddp::header::HeaderRead;
+use ddp::header::TaggedHeader;
+use ddp::header::UntaggedHeader;
+use ddp::refusal::CRC_ERROR;
+use ddp::refusal::Refusal;
+use ddp::refusal::ULPDU_TOO_LONG;
 use mpa::FpduRead;
 
 // The first segment: more bytes are wanted, it is refused, or it is whole. Then total is the length of
@@ -48,7 +49,7 @@ fn segment_of(bytes: &[u8], total: usize, start: usize, len: usize) -> SegmentRe
     ensures { λ r. ⌜ r ≡ segmentOf total start len (headerRead (part (now (bytes .entry)) start len)) ⌝ }
 {
     let end = start + len;
-    match crate::header::read_header(&bytes[start..end]) {
+    match ddp::header::read_header(&bytes[start..end]) {
         HeaderRead::Tagged(header) => SegmentRead::Tagged {
             total,
             header,

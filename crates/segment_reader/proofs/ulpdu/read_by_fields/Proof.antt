@@ -39,16 +39,16 @@ use Rattle.segment_reader.proofs.reader.skipped.Symbol as skipped-def
 use Rattle.segment_reader.proofs.reader.skipped.Met as skipped-thm
 use Rattle.segment_reader.proofs.reader.be64.Symbol as be64-def
 use Rattle.segment_reader.proofs.reader.be64.Met as be64-thm
-use Rattle.segment_reader.proofs.segment.start.Symbol as start-def
-use Rattle.segment_reader.proofs.segment.start.Met as start-thm
-use Rattle.segment_reader.proofs.segment.queue.Symbol as queue-def
-use Rattle.segment_reader.proofs.segment.queue.Met as queue-thm
+use Rattle.segment_reader.proofs.ulpdu.start.Symbol as start-def
+use Rattle.segment_reader.proofs.ulpdu.start.Met as start-thm
+use Rattle.segment_reader.proofs.ulpdu.queue.Symbol as queue-def
+use Rattle.segment_reader.proofs.ulpdu.queue.Met as queue-thm
 use Rattle.segment_reader.proofs.header.header_of.Symbol as header-of-def
 use Rattle.segment_reader.proofs.header.header_of.Met as header-of-thm
-use Rattle.segment_reader.proofs.segment.read_by_fields.Key.{name}
-use Rattle.segment_reader.proofs.segment.read_by_fields as read-by-fields
-use Rattle.segment_reader.proofs.segment.read_by_fields.Statement as stated
-use Rattle.segment_reader.proofs.segment.read_by_fields.Code as code
+use Rattle.segment_reader.proofs.ulpdu.read_by_fields.Key.{name}
+use Rattle.segment_reader.proofs.ulpdu.read_by_fields as read-by-fields
+use Rattle.segment_reader.proofs.ulpdu.read_by_fields.Statement as stated
+use Rattle.segment_reader.proofs.ulpdu.read_by_fields.Code as code
 
 abbrev Result : Slot 1
 Result = plain (λ _. R.the-row)

@@ -28,10 +28,10 @@ use Rattle.segment_reader.proofs.reader.new.Symbol as new-def
 use Rattle.segment_reader.proofs.reader.new.Met as new-thm
 use Rattle.segment_reader.proofs.reader.payload.Symbol as payload-def
 use Rattle.segment_reader.proofs.reader.payload.Met as payload-thm
-use Rattle.segment_reader.proofs.segment.payload_of.Key.{name}
-use Rattle.segment_reader.proofs.segment.payload_of as payload-of
-use Rattle.segment_reader.proofs.segment.payload_of.Statement as stated
-use Rattle.segment_reader.proofs.segment.payload_of.Code as code
+use Rattle.segment_reader.proofs.ulpdu.payload_of.Key.{name}
+use Rattle.segment_reader.proofs.ulpdu.payload_of as payload-of
+use Rattle.segment_reader.proofs.ulpdu.payload_of.Statement as stated
+use Rattle.segment_reader.proofs.ulpdu.payload_of.Code as code
 
 -- what `payload` ensures, and what is to be ensured
 abbrev at-place : Says bytes

@@ -1,7 +1,7 @@
 -- `framing_refusal` meets its contract: the test on the number picks the case.
 use borrow.Author.Tests.{eq-eqb, ne-eqb}
-use Rattle.ddp.proofs.segment.framing_refusal.Statement.{statement}
-use Rattle.ddp.proofs.segment.framing_refusal.Tie as tie
+use Rattle.segment.proofs.framing_refusal.Statement.{statement}
+use Rattle.segment.proofs.framing_refusal.Tie as tie
 
 returns : tie.Need-returns
 returns c = simp (eq-eqb _ _ (c .if1 .taken))
