@@ -1,4 +1,4 @@
--- What a header that was read says of the length: by cases on the tests of the definition, of which only one way
+-- What a header that was read says of the bytes: by cases on the tests of the definition, of which only one way
 -- gives that answer.
 use Prim.Native.Nat.{ℕ, _≤_}
 use mathlib.Core.Path.{_≡_, refl}
@@ -26,6 +26,24 @@ module _ (u : List ℕ) where
           pick a (Refused segmentTooShort) (pick (taggedBit (getD u 0 0)) (taggedRead u) (untaggedRead u)) ≡ Tagged h → 14 ≤ length u
       go true q e = let no : _≡_ {A = ℕ} 0 1 = cc in omega arith
       go false q e = ltb-false _ _ q
+
+  -- and a tagged one has the fields that stand there
+  pub tagged-fields : (h : TaggedHeader) → headerRead u ≡ Tagged h → h ≡ taggedFields u
+  unfolding headerRead taggedRead untaggedRead
+  tagged-fields h e = go (ltb (length u) 14) (taggedBit (getD u 0 0)) (versionOne (getD u 0 0)) (ltb (length u) 18) e
+    where
+      go :
+          (a b v d : Bool) →
+          pick a (Refused segmentTooShort)
+          (pick b (pick v (Tagged (taggedFields u)) (Refused taggedVersion)) (pick d (Refused segmentTooShort) (pick v (Untagged (untaggedFields u)) (Refused untaggedVersion))))
+          ≡ Tagged h →
+          h ≡ taggedFields u
+      go true b v d e = cc
+      go false true true d e = cc
+      go false true false d e = cc
+      go false false v true e = cc
+      go false false true false e = cc
+      go false false false false e = cc
 
   pub untagged-from : (h : UntaggedHeader) → headerRead u ≡ Untagged h → 18 ≤ length u
   unfolding headerRead taggedRead untaggedRead

@@ -1,11 +1,12 @@
 -- The payload of a segment that was read lies in the bytes: by cases on the frame and on its header, of which only one way
 -- gives a segment.
-use Prim.Native.Nat.{ℕ, _+_, _≤_}
-use mathlib.Core.Path.{_≡_, refl, sym, subst}
+use Prim.Native.Nat.{ℕ, _+_, _-_, _≤_}
+use mathlib.Core.Path.{_≡_, refl, sym, ap, subst}
 use mathlib.Core.Bool.{Bool}
 use mathlib.Core.List.{List}
+use native.Mathlib.Nat.{add-sub-cancel-left}
 use native.Mathlib.Omega.{arith}
-use lib.ListN.{length}
+use lib.ListN.{length, take, drop}
 use Rattle.wire.specs.Wire.{part}
 use Rattle.wire.proofs.Laws.{length-part}
 use Rattle.mpa.specs.Fpdu.{fpduRead}
@@ -19,6 +20,10 @@ use Rattle.segment.specs.declared.SegmentRead.{SegmentRead}
 use Rattle.segment.specs.declared.SegmentRead.the-variants.{Wait, Refused as SegmentRefused, Tagged as TaggedSegment, Untagged as UntaggedSegment}
 use Rattle.mpa.proofs.Taken.{ulpdu-inside}
 use Rattle.ddp.proofs.Segments.{tagged-from, untagged-from}
+
+-- what is lent of the bytes is the payload
+pub lent : (bytes : List ℕ) (start len : ℕ) → take (start + len - start) (drop start bytes) ≡ part bytes start len
+lent bytes start len = ap (λ (n : ℕ). take n (drop start bytes)) (add-sub-cancel-left start len)
 
 -- where the payload ends
 abbrev pub ends : SegmentRead → ℕ

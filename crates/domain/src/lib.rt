@@ -32,6 +32,7 @@ use rdmap::stream::closed_stream;
 
 pub mod parts;
 mod placing;
+pub mod write;
 
 // What a domain holds.
 #[repr(C)]

@@ -1,5 +1,6 @@
 -- Receive on what it needs of the owner's entry: what rnicReceived and rnicReceivedStore of the crate `rnic` make of a domain's part, its windows and one stream, the store's length beside them. proofs/Entries.antt shows that it is the device's receive.
 use Prim.Native.Nat.{ℕ, _/_, _%_, _-_}
+use mathlib.Core.Bool.{Bool}
 use mathlib.Core.List.{List}
 use lib.ListN.{length}
 use lib.Dec.{leb, eqb}
@@ -7,11 +8,14 @@ use borrow.Rule.Slice.PartMut.{midOf, putMid}
 use Rattle.wire.specs.Wire.{pick}
 use Rattle.ddp.specs.declared.part.Part.{Part}
 use Rattle.ddp.specs.declared.window.Window.{Window}
+use Rattle.rdmap.specs.declared.stream.Phase.{Phase}
 use Rattle.rdmap.specs.declared.stream.Stream.{Stream}
 use Rattle.domain.specs.Parts.{partsReceived, partsReceivedBytes, killed}
+use Rattle.domain.specs.Write.{noWrite, goodWrite as domainWrite, written}
 use Rattle.domain.specs.declared.Answer.{Answer}
 use Rattle.domain.specs.declared.Answer.the-variants.{Refused}
 use Rattle.domain.specs.declared.parts.PartsReceived.{PartsReceived}
+use Rattle.domain.specs.declared.write.GoodWrite.{GoodWrite}
 use Rattle.rnic.specs.Rnic.{partFits}
 use Rattle.rnic_c.specs.declared.entry.Kept.{Kept}
 
@@ -55,3 +59,17 @@ keptAnswer p ws s len size n input = pick (leb n 15) (pick (eqb size len) (keptO
 unfoldable pub keptStore : Part → List Window → Stream → ℕ → ℕ → List ℕ → List ℕ → List ℕ
 keptStore p ws s len n input mem =
     pick (leb n 15) (pick (eqb (length mem) len) (keptOwnedStore p ws s n input mem) mem) mem
+
+-- ---- a good Write, which leaves the windows and the stream as they were
+
+-- of the window that the bytes name, and of the stream's phase and CRC; where receive refuses the call there is none
+unfoldable pub goodWrite : Part → Window → Phase → Bool → ℕ → ℕ → ℕ → List ℕ → GoodWrite
+goodWrite p w phase crc len size n input =
+    pick (leb n 15) (pick (eqb size len) (pick (partFits p size) (domainWrite p w phase crc (n / 4) input) noWrite) noWrite) noWrite
+
+-- and the store with its payload in its place
+unfoldable pub writtenStore : Part → GoodWrite → List ℕ → List ℕ → List ℕ
+writtenStore p g input mem =
+    pick (partFits p (length mem))
+    (putMid (p .start) (p .end - p .start) mem (written p g input (midOf (p .start) (p .end - p .start) mem)))
+    mem

@@ -2,7 +2,11 @@
 // part, the windows and the one stream, and the store's length.
 ghost use mathlib.Core.Path.{_≡_};
 ghost use lib.ListN.{length};
-ghost use Rattle.calls.specs.Words.{answerWords};
+ghost use Rattle.calls.specs.Words.{answerWords, words as wordsOf};
+ghost use Prim.Native.Nat.{_/_};
+ghost use Rattle.wire.specs.Wire.{pick};
+ghost use Rattle.domain.specs.Write.{noWrite, goodWrite as domainWrite};
+ghost use Rattle.rnic.specs.Rnic.{partFits};
 ghost use Rattle.rnic_c.specs.Entry.{
   ownerOf,
   slotOf,
@@ -12,6 +16,8 @@ ghost use Rattle.rnic_c.specs.Entry.{
   keptReceived,
   keptAnswer,
   keptStore,
+  goodWrite,
+  writtenStore,
 };
 use calls::words::answer_words;
 use calls::words::words;
@@ -19,6 +25,9 @@ use ddp::part::Part;
 use ddp::window::Window;
 use domain::parts::kill;
 use domain::parts::receive_parts;
+use domain::write::GoodWrite;
+use domain::write::no_write;
+use rdmap::stream::Phase;
 use rdmap::stream::Stream;
 
 // What a receive leaves of the owner's entry: its windows and the one stream.
@@ -100,4 +109,73 @@ pub(crate) fn receive_kept(
     }
     *answer = words(0, 1, 0, 0, 0, 0);
     Kept { windows, stream: s }
+}
+
+// The first FPDU of bytes for a stream in range, with a store of the right length, if it is a good
+// Write.
+fn judge_owned(
+    part: Part,
+    w: Window,
+    phase: Phase,
+    crc: bool,
+    size: usize,
+    stream: u64,
+    bytes: &[u8],
+) -> GoodWrite
+    ensures { λ r. ⌜ r ≡ pick (partFits part size) (domainWrite part w phase crc (stream / 4) (now (bytes .entry))) noWrite ⌝ }
+{
+    let start = part.start as usize;
+    let end = part.end as usize;
+    if end < start {
+        return no_write();
+    }
+    if size < end {
+        return no_write();
+    }
+    domain::write::judge_write(part, w, phase, crc, stream / 4, bytes)
+}
+
+// The first FPDU of bytes for a stream, if it is a good Write, of what it needs of its owner's entry
+// and the length of the store.
+pub(crate) fn judge_write(
+    part: Part,
+    w: Window,
+    phase: Phase,
+    crc: bool,
+    len: u32,
+    size: usize,
+    stream: u64,
+    bytes: &[u8],
+) -> GoodWrite
+    ensures { λ r. ⌜ r ≡ goodWrite part w phase crc len size stream (now (bytes .entry)) ⌝ }
+{
+    if stream <= 15 {
+        if size == len as usize {
+            return judge_owned(part, w, phase, crc, size, stream, bytes);
+        }
+        return no_write();
+    }
+    no_write()
+}
+
+// Puts the payload of a good Write in its place of the store, and answers that its FPDU is taken.
+pub(crate) fn put_write(
+    part: Part,
+    write: GoodWrite,
+    store: &mut [u8],
+    bytes: &[u8],
+    answer: &mut [u64; 8],
+)
+    ensures { λ _. ⌜ (now (answer .exit) ≡ wordsOf 6 (write .total) 0 0 0 0) × (now (store .exit) ≡ writtenStore part write (now (bytes .entry)) (now (store .entry))) ⌝ }
+{
+    *answer = words(6, write.total as u64, 0, 0, 0, 0);
+    let start = part.start as usize;
+    let end = part.end as usize;
+    if end < start {
+        return;
+    }
+    if store.len() < end {
+        return;
+    }
+    domain::write::put_write(part, write, &mut store[start..end], bytes);
 }

@@ -3,7 +3,6 @@
 use Prim.Native.Nat.{ℕ, _+_, _-_, _≤_}
 use mathlib.Core.Path.{_≡_, refl, sym, ap, ap₂, _∙_, subst}
 use mathlib.Core.List.{List}
-use native.Mathlib.Nat.{add-sub-cancel-left}
 use native.Mathlib.Omega.{arith}
 use lib.ListN.{length, take, drop}
 use Rattle.wire.specs.Wire.{part}
@@ -19,14 +18,10 @@ use Rattle.rdmap.specs.declared.message.Verdict.{Verdict}
 use Rattle.domain.specs.Parts.{appliedBytes, taggedVerdict, partsJudged, partsPlaced}
 use Rattle.domain.specs.declared.parts.Judged.{Judged}
 use Rattle.domain.specs.declared.parts.Judged.the-variants.{Fpdu}
-use Rattle.domain.proofs.Inside.{inside}
+use Rattle.domain.proofs.Inside.{lent, inside}
 use borrow.Author.Needs.{needs}
 use Rattle.domain.proofs.parts.judge_first.Statement.{statement}
 use Rattle.domain.proofs.parts.judge_first.Tie as tie
-
--- what is lent of the bytes is the payload
-lent : (bytes : List ℕ) (start len : ℕ) → take (start + len - start) (drop start bytes) ≡ part bytes start len
-lent bytes start len = ap (λ (n : ℕ). take n (drop start bytes)) (add-sub-cancel-left start len)
 
 -- the payload ends in the bytes
 tagged-ends : (t : tie.After-total) → t .total .given .0 .1 .1 .0 + t .total .given .0 .1 .1 .1 .0 ≤ length (t .before .before .before .before .before .args .bytes .now)
