@@ -2,7 +2,7 @@
 use mathlib.Core.Path.{_≡_, refl, sym, ap, _∙_}
 use Prim.Native.Nat.{ℕ, _<_, _≤_, _/_, _%_}
 use native.Mathlib.Omega.{arith}
-use mathlib.Core.Bool.{Bool, true, false}
+use mathlib.Core.Bool.{Bool, true, false, false≢true}
 use mathlib.Core.List.{List}
 use lib.ListN.{length, set}
 use lib.Dec.{leb, eqb}
@@ -11,6 +11,7 @@ use borrow.Author.Tests.{leb-true}
 use Rattle.wire.specs.Wire.{pick}
 use Rattle.domain.specs.Domain.{streamAt, noStream}
 use Rattle.domain.specs.Parts.{partsReceived}
+use Rattle.ddp.specs.Window.{windowAt}
 use Rattle.rdmap.specs.declared.stream.Stream.{Stream}
 use Rattle.domain.specs.declared.Answer.{Answer}
 use Rattle.domain.specs.declared.Answer.the-variants.{Refused}
@@ -20,10 +21,11 @@ use Rattle.domain.proofs.Lift.{parts-lifted, parts-bytes}
 use Rattle.rnic.specs.Rnic.{domainAt, noDomain, withDomain, withBytes, bytesOf, partFits, rnicReceived, rnicReceivedStore, receivedOwned, receivedOwnedStore}
 use Rattle.rnic.specs.declared.Rnic.{Rnic}
 use Rattle.rnic.specs.declared.RnicReceived.{RnicReceived}
-use Rattle.rnic_c.specs.Words.{answerWords}
+use Rattle.rnic_c.specs.Words.{answerWords, words as wordsOf}
 use Rattle.rnic_c.specs.Call.{calledReceive}
-use Rattle.rnic_c.specs.Entry.{ownerOf, slotOf, unchanged, changed, keptOwned, keptOwnedAnswer, keptOwnedStore, keptReceived, keptAnswer, keptStore}
+use Rattle.rnic_c.specs.Entry.{ownerOf, slotOf, unchanged, changed, keptOwned, keptOwnedAnswer, keptOwnedStore, keptReceived, keptAnswer, keptStore, namedWindow, goodWrite, writtenStore}
 use Rattle.rnic_c.specs.declared.entry.Kept.{Kept}
+use Rattle.rnic_c.specs.declared.entry.GoodWrite.{GoodWrite}
 
 -- the owner is one of the four, and so is the slot
 pub owner-inside : (n : ℕ) → ownerOf n < 4
@@ -35,6 +37,11 @@ owner-inside n = go (leb n 15) (λ e. leb-true n 15 e)
 
 pub slot-inside : (n : ℕ) → slotOf n < 4
 slot-inside n = omega arith
+
+-- and so is the slot of the window that is named, one of the sixteen
+pub named-inside : (input : List ℕ) → namedWindow input < 16
+unfolding namedWindow
+named-inside input = omega arith
 
 slot-below : (n : ℕ) → slotOf n ≤ 3
 slot-below n = omega arith
@@ -114,3 +121,11 @@ module _ (b : Rnic) where
       t .1 ∙ (λ z. answerWords (keptAnswer (dom (e z) .part) (dom (e z) .windows) (streamAt (dom (e z)) (f z)) (b .len) (length mem) n input)) ∙ sym (ap (λ x. answerWords (x .answer)) (received-is (length mem))),
       t .2 ∙ (λ z. keptStore (dom (e z) .part) (dom (e z) .windows) (streamAt (dom (e z)) (f z)) (b .len) n input mem) ∙ sym (store-is mem),
     )
+
+    -- a good Write: the device is as it was, and what put_write says is what is said of it
+    pub write-told : (i j : ℕ) (mem : List ℕ) (g : GoodWrite) (words bytes : List ℕ) → i ≡ ownerOf n → j ≡ slotOf n
+        → g ≡ goodWrite (dom i .part) (windowAt (dom i .windows) (namedWindow input)) (streamAt (dom i) j .phase) (streamAt (dom i) j .crc) (b .len) (length mem) n input
+        → g .good ≡ true → words ≡ wordsOf 6 (g .total) 0 0 0 0 → bytes ≡ writtenStore (dom i .part) g input mem
+        → (b ≡ calledReceive b (length mem) n input .rnic) × (words ≡ calledReceive b (length mem) n input .words) × (bytes ≡ rnicReceivedStore b n input mem)
+    unfolding goodWrite
+    write-told i j mem g words bytes e f told good _ _ = absurd (false≢true (sym (ap (λ (x : GoodWrite). x .good) told) ∙ good))

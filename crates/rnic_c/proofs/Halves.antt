@@ -1,4 +1,4 @@
--- A walk in two halves: what the second one starts with. The code that is left after some statements, the locals' places, and what each local holds, so that a long walk is not one term.
+-- A walk in parts: what each of them starts with. The code that is left after some statements, the code of the first way where that starts with a branch, the locals' places, and what each local holds, so that a long walk is not one term.
 use Prim.Native.Nat.{ℕ, zero, suc}
 use mathlib.Core.List.{List, [], _∷_}
 use mathlib.Core.Option.{Option, some, none}
@@ -25,6 +25,31 @@ rest (call f xs d) = skip
 abbrev pub after : ℕ → Body → Body
 after zero b = b
 after (suc n) b = after n (rest b)
+
+-- the first way of the branch that the code starts with
+abbrev way : Body → Body
+way skip = skip
+way (seq a b) = skip
+way (assign p v) = skip
+way (block a) = skip
+way (loop a) = skip
+way (cond c a b) = a
+way (switch c a) = skip
+way (exit n) = skip
+way return = skip
+way (call f xs d) = skip
+
+abbrev pub held : Body → Body
+held skip = skip
+held (seq a b) = way a
+held (assign p v) = skip
+held (block a) = skip
+held (loop a) = skip
+held (cond c a b) = skip
+held (switch c a) = skip
+held (exit n) = skip
+held return = skip
+held (call f xs d) = skip
 
 -- the locals with the blocks that they lie in
 abbrev pub placed : List Local → List ℕ → List (Ty × ℕ)

@@ -1,6 +1,6 @@
 -- Receive on what it needs of the owner's entry: what rnicReceived and rnicReceivedStore of the crate `rnic` make of a domain's part, its windows and one stream, the store's length beside them. proofs/Entries.antt shows that it is the device's receive.
 use Prim.Native.Nat.{ℕ, _/_, _%_, _-_}
-use mathlib.Core.Bool.{Bool}
+use mathlib.Core.Bool.{Bool, false}
 use mathlib.Core.List.{List}
 use lib.ListN.{length}
 use lib.Dec.{leb, eqb}
@@ -13,7 +13,9 @@ use Rattle.domain.specs.Parts.{partsReceived, partsReceivedBytes, killed}
 use Rattle.domain.specs.declared.Answer.{Answer}
 use Rattle.domain.specs.declared.Answer.the-variants.{Refused}
 use Rattle.domain.specs.declared.parts.PartsReceived.{PartsReceived}
+use Rattle.rdmap.specs.declared.stream.Phase.{Phase}
 use Rattle.rnic_c.specs.declared.entry.Kept.{Kept}
+use Rattle.rnic_c.specs.declared.entry.GoodWrite.{GoodWrite}
 
 -- the domain that owns a stream; a number that is no stream's is for none, and its entry is left as it was
 abbrev pub ownerOf : ℕ → ℕ
@@ -59,3 +61,15 @@ keptAnswer p ws s len size n input = pick (leb n 15) (pick (eqb size len) (keptO
 unfoldable pub keptStore : Part → List Window → Stream → ℕ → ℕ → List ℕ → List ℕ → List ℕ
 keptStore p ws s len n input mem =
     pick (leb n 15) (pick (eqb (length mem) len) (keptOwnedStore p ws s n input mem) mem) mem
+
+-- the slot of the window that bytes name
+unfoldable pub namedWindow : List ℕ → ℕ
+namedWindow input = 0
+
+-- whether bytes are a good Write
+unfoldable pub goodWrite : Part → Window → Phase → Bool → ℕ → ℕ → ℕ → List ℕ → GoodWrite
+goodWrite p w phase crc len size n input = record { good = false; total = 0; at = 0; start = 0; len = 0 }
+
+-- and the store after it
+unfoldable pub writtenStore : Part → GoodWrite → List ℕ → List ℕ → List ℕ
+writtenStore p g input mem = mem

@@ -2,7 +2,7 @@
 // part, the windows and the one stream, and the store's length.
 ghost use mathlib.Core.Path.{_≡_};
 ghost use lib.ListN.{length};
-ghost use Rattle.rnic_c.specs.Words.{answerWords};
+ghost use Rattle.rnic_c.specs.Words.{answerWords, words as wordsOf};
 ghost use Rattle.domain.specs.Parts.{killed};
 ghost use Rattle.rnic_c.specs.Entry.{
   ownerOf,
@@ -13,6 +13,9 @@ ghost use Rattle.rnic_c.specs.Entry.{
   keptReceived,
   keptAnswer,
   keptStore,
+  namedWindow,
+  goodWrite,
+  writtenStore,
 };
 use crate::words::answer_words;
 use crate::words::words;
@@ -20,12 +23,23 @@ use ddp::part::Part;
 use ddp::window::Window;
 use domain::parts::receive_parts;
 use rdmap::message::Invalidate;
+use rdmap::stream::Phase;
 use rdmap::stream::Stream;
 
 // What a receive leaves of the owner's entry: its windows and the one stream.
 pub struct Kept {
     pub windows: [Window; 16],
     pub stream: Stream,
+}
+
+// What a good Write is: its FPDU's total, the place of the store that its payload goes to, and the
+// payload's len bytes from start.
+pub struct GoodWrite {
+    pub good: bool,
+    pub total: usize,
+    pub at: u64,
+    pub start: usize,
+    pub len: usize,
 }
 
 // The domain that owns a stream; the first for a number that is no stream's.
@@ -114,4 +128,47 @@ pub(crate) fn receive_kept(
     }
     *answer = words(0, 1, 0, 0, 0, 0);
     Kept { windows, stream: s }
+}
+
+// The slot of the window that bytes name, if they are a tagged segment; any slot otherwise.
+pub(crate) fn named_window(bytes: &[u8]) -> usize
+    ensures { λ r. ⌜ r ≡ namedWindow (now (bytes .entry)) ⌝ }
+{
+    0
+}
+
+// Whether bytes are a good Write for a stream, of what it needs of its owner's entry and the length
+// of the store.
+pub(crate) fn judge_write(
+    part: Part,
+    w: Window,
+    phase: Phase,
+    crc: bool,
+    len: u32,
+    size: usize,
+    stream: u64,
+    bytes: &[u8],
+) -> GoodWrite
+    ensures { λ r. ⌜ r ≡ goodWrite part w phase crc len size stream (now (bytes .entry)) ⌝ }
+{
+    GoodWrite {
+        good: false,
+        total: 0,
+        at: 0,
+        start: 0,
+        len: 0,
+    }
+}
+
+// Puts a good Write in its place of the store, and says that it is taken.
+pub(crate) fn put_write(
+    part: Part,
+    write: GoodWrite,
+    store: &mut [u8],
+    bytes: &[u8],
+    answer: &mut [u64; 8],
+)
+    ensures { λ _. ⌜ (now (answer .exit) ≡ wordsOf 6 (write .total) 0 0 0 0) × (now (store .exit) ≡ writtenStore part write (now (bytes .entry)) (now (store .entry))) ⌝ }
+{
+    *answer = words(6, write.total as u64, 0, 0, 0, 0);
 }

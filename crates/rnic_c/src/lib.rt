@@ -18,7 +18,10 @@ use crate::calls::call_post;
 use crate::calls::call_receive;
 use crate::calls::call_register;
 use crate::calls::call_take;
+use crate::entry::judge_write;
+use crate::entry::named_window;
 use crate::entry::owner_of;
+use crate::entry::put_write;
 use crate::entry::receive_kept;
 use crate::entry::slot_of;
 use crate::words::words;
@@ -93,12 +96,23 @@ pub extern "C" fn rnic_c_receive(
 {
     let owner = owner_of(stream);
     let slot = slot_of(stream);
-    let part = device.domains[owner].part;
-    let windows = device.domains[owner].windows;
-    let s = device.domains[owner].streams[slot];
-    let next = receive_kept(part, windows, s, device.len, store, stream, bytes, answer);
-    device.domains[owner].windows = next.windows;
-    device.domains[owner].streams[slot] = next.stream;
+    let named = named_window(bytes);
+    let len = device.len;
+    let d = &mut device.domains[owner];
+    let part = d.part;
+    let window = d.windows[named];
+    let s = &mut d.streams[slot];
+    let phase = s.phase;
+    let crc = s.crc;
+    let write = judge_write(part, window, phase, crc, len, store.len(), stream, bytes);
+    if write.good {
+        put_write(part, write, store, bytes, answer);
+        return;
+    }
+    let windows = d.windows;
+    let next = receive_kept(part, windows, *s, len, store, stream, bytes, answer);
+    d.windows = next.windows;
+    *s = next.stream;
 }
 
 // The CRC-32C of bytes, by which a program can write frames of its own.
