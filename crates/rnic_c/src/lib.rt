@@ -82,8 +82,10 @@ pub extern "C" fn rnic_c_call(
     *device = next;
 }
 
-// The device's receive by itself: what `rnic_c_call` does with the number 9, but that of the owner's
-// entry the part, the windows and the one stream are copied, and nothing else of the device.
+// The device's receive by itself: what `rnic_c_call` does with the number 9, but that no more of the
+// device is copied than is needed. A good Write needs of the owner's entry the part, one window, and
+// the phase and the CRC of the one stream, and changes nothing of it. For all else the windows and
+// the stream are copied too, and written back.
 #[no_mangle]
 pub extern "C" fn rnic_c_receive(
     device: &mut Rnic,
