@@ -4,3 +4,4 @@ pub mod Constants
 pub mod Parted
 pub mod Raws
 pub mod Halves
+pub mod Taken

@@ -8,10 +8,13 @@ ghost use lib.ListN.{length};
 ghost use Rattle.calls.specs.Call.{called, calledStore, calledReceive};
 ghost use Rattle.rnic.specs.Rnic.{rnicReceivedStore};
 ghost use Rattle.crc32c.specs.Crc.{crcOf};
+use crate::entry::judge_write;
 use crate::entry::owner_of;
+use crate::entry::put_write;
 use crate::entry::receive_kept;
 use crate::entry::slot_of;
 use calls::call;
+use domain::write::named_window;
 use rnic::Rnic;
 
 mod entry;
@@ -32,8 +35,10 @@ pub extern "C" fn rnic_c_call(
     *device = next;
 }
 
-// The device's receive by itself: what `rnic_c_call` does with the number 9, but that of the owner's
-// entry the part, the windows and the one stream are copied, and nothing else of the device.
+// The device's receive by itself: what `rnic_c_call` does with the number 9, but that no more of the
+// device is copied than is needed. A good Write needs of the owner's entry the part, one window, and
+// the phase and the CRC of the one stream, and changes nothing of it. For all else the windows and
+// the stream are copied too, and written back.
 #[no_mangle]
 pub extern "C" fn rnic_c_receive(
     device: &mut Rnic,
@@ -46,12 +51,23 @@ pub extern "C" fn rnic_c_receive(
 {
     let owner = owner_of(stream);
     let slot = slot_of(stream);
-    let part = device.domains[owner].part;
-    let windows = device.domains[owner].windows;
-    let s = device.domains[owner].streams[slot];
-    let next = receive_kept(part, windows, s, device.len, store, stream, bytes, answer);
-    device.domains[owner].windows = next.windows;
-    device.domains[owner].streams[slot] = next.stream;
+    let named = named_window(bytes);
+    let len = device.len;
+    let d = &mut device.domains[owner];
+    let part = d.part;
+    let window = d.windows[named];
+    let s = &mut d.streams[slot];
+    let phase = s.phase;
+    let crc = s.crc;
+    let write = judge_write(part, window, phase, crc, len, store.len(), stream, bytes);
+    if write.good {
+        put_write(part, write, store, bytes, answer);
+        return;
+    }
+    let windows = d.windows;
+    let next = receive_kept(part, windows, *s, len, store, stream, bytes, answer);
+    d.windows = next.windows;
+    *s = next.stream;
 }
 
 // The CRC-32C of bytes, by which a program can write frames of its own.
