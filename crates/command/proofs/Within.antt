@@ -1,10 +1,10 @@
 -- The place after a put, and a number within the front of a slice, lie within the slice.
 -- Assumes nothing.
 use Prim.Native.Nat.{ℕ, _≤_}
-use mathlib.Core.Path.{_≡_, refl, sym}
+use mathlib.Core.Path.{_≡_, refl}
 use mathlib.Core.List.{List, _++_}
 use native.Mathlib.Omega.{arith}
-use lib.ListN.{length, length-append, replicate, length-replicate}
+use lib.ListN.{length, length-append}
 use Rattle.script.specs.Put.{putEnd}
 use Rattle.script.proofs.Placed.{put-within}
 
@@ -22,7 +22,3 @@ put-twice s t out mid at k e f h =
 -- a number within the front of a slice lies within the whole
 pub front-within : {n : ℕ} (front rest : List ℕ) (k : ℕ) → length front ≡ k → n ≤ k → n ≤ length (front ++ rest)
 front-within front rest k e h = simp length-append (omega arith)
-
--- a list of n zeros has n elements
-pub zeros-long : (n : ℕ) → n ≡ length {0} {A = ℕ} (replicate {0} {A = ℕ} n 0)
-zeros-long n = sym (length-replicate n 0)

@@ -8,11 +8,15 @@ use native.Mathlib.Nat.{zero-add, add-zero, add-assoc}
 use native.Mathlib.Numerals.{add-one, add-two, add-three}
 use native.Mathlib.Omega.{arith}
 use lib.Dec.{eqb}
-use lib.ListN.{length, getD, take, drop, set, length-append, length-drop}
+use lib.ListN.{length, getD, take, drop, set, replicate, length-append, length-drop, length-replicate}
 use lib.Seq.{sets-eq, take-at, drop-at, drop-drop, drop-cons, take-add, length-take-le, getD-take, getD-drop, getD-append-add}
 use borrow.Author.Tests.{eq-eqb, eqb-true}
 use borrow.Rule.Slice.PartMut.{putMid}
 use Rattle.wire.specs.Wire.{both, same, part, put, be16, be16At, be32, be32At, be64, be64At, le32, le32At}
+
+-- a list of n zeros has n elements
+pub zeros-long : (n : ℕ) → n ≡ length {0} {A = ℕ} (replicate {0} {A = ℕ} n 0)
+zeros-long n = sym (length-replicate n 0)
 
 -- each element is a byte
 abbrev pub Bytes : List ℕ → Type 0

@@ -1,5 +1,5 @@
 -- `new_store` meets its contract: a list of 1048576 zeros is that long.
-use Rattle.command.proofs.Within.{zeros-long}
+use Rattle.wire.proofs.Laws.{zeros-long}
 use Rattle.replay.proofs.new_store.Statement.{statement}
 use Rattle.replay.proofs.new_store.Tie as tie
 

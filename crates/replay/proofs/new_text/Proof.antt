@@ -1,5 +1,5 @@
 -- `new_text` meets its contract: a list of 2097184 zeros is that long.
-use Rattle.command.proofs.Within.{zeros-long}
+use Rattle.wire.proofs.Laws.{zeros-long}
 use Rattle.replay.proofs.new_text.Statement.{statement}
 use Rattle.replay.proofs.new_text.Tie as tie
 

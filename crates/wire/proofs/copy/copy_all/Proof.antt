@@ -1,67 +1,70 @@
--- `copy_all` meets its contract. The loop's invariant: the first i bytes are src's, and the rest are as they were.
-use Prim.Native.Nat.{ℕ, zero, suc, _-_, _≤_, _<_}
-use mathlib.Core.Path.{_≡_, refl, ap, _∙_}
-use mathlib.Core.List.{List, [], _∷_, _++_, append-nil}
-use native.Mathlib.Nat.{le-of-suc-le-suc, not-suc-le-zero}
-use native.Mathlib.Numerals.{add-one}
+-- `copy_all` meets its contract: the block's first bytes are src's once they are copied there, and so are dst's after them.
+use Prim.Native.Nat.{ℕ, _≤_}
+use mathlib.Core.Path.{_≡_, sym, ap, _∙_}
+use mathlib.Core.List.{List, _++_}
 use native.Mathlib.Omega.{arith}
-use lib.ListN.{length, take, drop, getD, set, length-set, drop-of-length-le}
-use lib.Seq.{take-all}
+use lib.ListN.{length, take, length-append}
+use lib.Seq.{take-at, length-take-le}
 use borrow.Author.Needs.{needs}
 use Rattle.wire.proofs.copy.copy_all.Statement.{statement}
 use Rattle.wire.proofs.copy.copy_all.Tie as tie
 
-abbrev Inv-loop : tie.InvT-loop
-Inv-loop dst₀ src i₀ dst i = (i ≤ length src) × (length dst ≡ length dst₀) × (dst ≡ take i src ++ drop i dst₀)
+-- the first bytes of the block, which src was copied to
+first : (src ys rest : List ℕ) → ys ≡ src → take (length src) (ys ++ rest) ≡ src
+first src ys rest e = take-at ys rest (length src) (ap length e) ∙ e
 
-abbrev μ-loop : tie.MeasureT-loop
-μ-loop dst₀ src i₀ dst i = length src - i
+within : (src ys rest : List ℕ) → ys ≡ src → length src ≤ length (ys ++ rest)
+within src ys rest e = let l : length ys ≡ length src = ap length e in simp length-append (omega arith)
 
--- a turn's store takes the copy of i bytes to the copy of one more
-store : (src dst : List ℕ) (i : ℕ) → i < length src → i < length dst → set (take i src ++ drop i dst) i (getD src i 0) ≡ take (suc i) src ++ drop (suc i) dst
-store [] dst i h k = absurd (not-suc-le-zero h)
-store (x ∷ xs) [] i h k = absurd (not-suc-le-zero k)
-store (x ∷ xs) (y ∷ ys) zero h k = refl
-store (x ∷ xs) (y ∷ ys) (suc i) h k = ap (λ (l : List ℕ). x ∷ l) (store xs ys i (le-of-suc-le-suc h) (le-of-suc-le-suc k))
+copy-bytes-requires : tie.Need-copy-bytes-requires
+copy-bytes-requires c κs = search needs
 
--- a whole copy is the source
-whole : (src dst : List ℕ) (i : ℕ) → length dst ≡ length src → length src ≤ i → take i src ++ drop i dst ≡ src
-whole src dst i e h =
-    let none : drop i dst ≡ [] = drop-of-length-le dst {i = i} (omega arith) in
-    rw (take-all i src h, none) (append-nil src)
+same-length : tie.Need-same-length
+same-length c = search needs
 
-loop-holds : tie.Need-loop-holds Inv-loop μ-loop
-loop-holds c = (search needs, refl, refl)
+returns : tie.Need-returns
+returns c = search needs
 
-shared-slice-read-dst : tie.Need-shared-slice-read-dst Inv-loop μ-loop
-shared-slice-read-dst c = omega arith
+new-block-requires : tie.Need-new-block-requires
+new-block-requires c κs = search needs
 
-slice-write-dst : tie.Need-slice-write-dst Inv-loop μ-loop
-slice-write-dst c = omega arith
+array-borrow-prefix-block : tie.Need-array-borrow-prefix-block
+array-borrow-prefix-block c = search needs
 
-add-i : tie.Need-add-i Inv-loop μ-loop
-add-i c = omega arith
+slice-aggregate-copy-bytes : tie.Need-slice-aggregate-copy-bytes
+slice-aggregate-copy-bytes c = sym (length-take-le _ _ (search needs))
 
-loop-less : tie.Need-loop-less Inv-loop μ-loop
-loop-less c = omega arith
+copy-bytes-requires-2 : tie.Need-copy-bytes-requires-2
+copy-bytes-requires-2 c κs = length-take-le _ _ (search needs)
 
-loop-again : tie.Need-loop-again Inv-loop μ-loop
-loop-again c =
-    let l = c .before .before .loop in
-    let a = c .before .before .before .args in (
-      omega arith,
-      simp length-set (l .inv .1),
-      ap (λ (r : List ℕ). set r (l .i) (getD (a .src .now) (l .i) 0)) (l .inv .2)
-          ∙ rw add-one (store (a .src .now) (a .dst .now) (l .i) (omega arith) (omega arith)),
-    )
+array-share-prefix-block : tie.Need-array-share-prefix-block
+array-share-prefix-block c = within _ _ _ (c .before .before .copy-bytes2 .ensures)
 
-same-length : tie.Need-same-length Inv-loop μ-loop
-same-length c = c .before .loop .inv .1
+slice-aggregate-copy-bytes-2 : tie.Need-slice-aggregate-copy-bytes-2
+slice-aggregate-copy-bytes-2 c = sym (ap length (first _ _ _ (c .before .before .before .copy-bytes2 .ensures)))
 
-returns : tie.Need-returns Inv-loop μ-loop
-returns c =
-    let a = c .before .before .args in
-    c .before .loop .inv .2 ∙ whole (a .src .now) (a .dst .now) (c .before .loop .i) (c .before .before .pre) (c .loop-test .left)
+copy-bytes-requires-3 : tie.Need-copy-bytes-requires-3
+copy-bytes-requires-3 c κs = c .before .before .before .before .before .before .before .before .before .pre ∙ sym (ap length (first _ _ _ (c .before .before .before .copy-bytes2 .ensures)))
+
+same-length-2 : tie.Need-same-length-2
+same-length-2 c = search needs
+
+returns-2 : tie.Need-returns-2
+returns-2 c = c .before .before .copy-bytes3 .ensures ∙ first _ _ _ (c .before .before .before .before .before .before .copy-bytes2 .ensures)
 
 pub copy-all-spec : {M : Type 1} → statement M
-copy-all-spec = tie.close (tie.spec Inv-loop μ-loop loop-holds shared-slice-read-dst slice-write-dst add-i loop-less loop-again same-length returns)
+copy-all-spec =
+    tie.close
+    (tie.spec
+    copy-bytes-requires
+    same-length
+    returns
+    new-block-requires
+    array-borrow-prefix-block
+    slice-aggregate-copy-bytes
+    copy-bytes-requires-2
+    array-share-prefix-block
+    slice-aggregate-copy-bytes-2
+    copy-bytes-requires-3
+    same-length-2
+    returns-2)
