@@ -3,8 +3,8 @@
 // records in hand, and is lent no other domain's bytes.
 //
 // Read `Domain` first, then `receive`, which takes the first FPDU of some bytes for a stream, and
-// `Answer`, what it answers; the module `parts` does it over what it needs of the domain. The
-// definitions, in specs/Domain.antt, are the paper's "A's book".
+// `Answer`, what it answers; the module `parts` does it over what it needs of the domain, and `write`
+// is the quick way of a good Write. The definitions, in specs/Domain.antt, are the paper's "A's book".
 ghost use mathlib.Core.Path.{_≡_};
 ghost use Prim.Native.Nat.{_<_};
 ghost use Rattle.domain.specs.Domain.{
