@@ -2,7 +2,8 @@
 // of an answer come out, so that a caller needs to know no type but the device's.
 //
 // Read `call` first, which does a call by value; `one` has a function for each call, and `words` the
-// words of the answers. The numbers of the calls stand in specs/Call.antt, the words in specs/Words.antt.
+// words of the answers. The numbers of the calls stand in specs/Call.antt, the words in
+// specs/Words.antt.
 ghost use mathlib.Core.Path.{_≡_};
 ghost use lib.ListN.{length};
 ghost use Rattle.calls.specs.Call.{called, calledStore};

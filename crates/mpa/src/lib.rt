@@ -2,9 +2,9 @@
 // (startup, section 7.1), each written and read. A writer fills a slice that the caller lends; a
 // reader says what it found at the start of the bytes at hand, or how many it waits for.
 //
-// Read `FpduRead` and `StartupRead` first: with `Written` of `wire` they are the answers. The definitions that
-// the contracts cite are in specs/Fpdu.antt and specs/Startup.antt, the refusals' numbers in
-// refusal. No public function has a `requires`: each answers whatever comes.
+// Read `FpduRead` and `StartupRead` first: with `Written` of `wire` they are the answers. The
+// definitions that the contracts cite are in specs/Fpdu.antt and specs/Startup.antt, the refusals'
+// numbers in refusal. No public function has a `requires`: each answers whatever comes.
 pub mod fpdu;
 pub mod refusal;
 pub mod startup;

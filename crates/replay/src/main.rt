@@ -1,8 +1,8 @@
 // Runs a script of commands from standard input, and writes one line for each to standard output.
 //
 // `input` reads the script and parts it into lines, `run` runs one of them, `output` writes its answer.
-// What a line asks is in the crate `request`, what a call is answered in `report`. Nothing grows with the script: the store and
-// every buffer stand in `main` and are lent from there.
+// What a line asks is in the crate `request`, and what a call is answered in `report`. Nothing grows
+// with the script: the store and every buffer stand in `main` and are lent from there.
 ghost use mathlib.Core.Path.{_≡_};
 ghost use lib.ListN.{length};
 

@@ -1,5 +1,6 @@
 // Receive on what it needs of the owner's entry, so that nothing else of the device is copied: the
-// part, the windows and the one stream, and the store's length.
+// part, the windows and the one stream, and the store's length (`receive_kept`). A good Write needs
+// of these one window and two fields of the stream (`judge_write`), and changes none (`put_write`).
 ghost use mathlib.Core.Path.{_≡_};
 ghost use lib.ListN.{length};
 ghost use Rattle.calls.specs.Words.{answerWords, words as wordsOf};

@@ -1,5 +1,5 @@
-// Segments: the first FPDU of some bytes, as a DDP segment (rules 20 to 23). Here the framing of `mpa` and
-// the headers of `ddp` meet, which know nothing of each other. Read `SegmentRead` first.
+// Segments: the first FPDU of some bytes, as a DDP segment (rules 20 to 23). Here the framing of
+// `mpa` and the headers of `ddp` meet, which know nothing of each other. Read `SegmentRead` first.
 ghost use mathlib.Core.Path.{_≡_};
 ghost use Prim.Native.Nat.{_+_, _≤_};
 ghost use lib.ListN.{length};
