@@ -68,7 +68,7 @@ void rnic_c_call(struct rnic *device, uint8_t *store, size_t store_length, uint6
                  const uint64_t a[RNIC_C_ARGUMENTS], const uint8_t *bytes, size_t bytes_length,
                  uint64_t answer[RNIC_C_WORDS]);
 
-/* RNIC_RECEIVE by itself, for the path that has to be quick: the first FPDU of bytes for a stream. */
+/* RNIC_RECEIVE by itself, for the path that has to be fast: the first FPDU of bytes for a stream. */
 void rnic_c_receive(struct rnic *device, uint8_t *store, size_t store_length, uint64_t stream, const uint8_t *bytes,
                     size_t bytes_length, uint64_t answer[RNIC_C_WORDS]);
 

@@ -1,8 +1,8 @@
 -- The words of an answer: word 0 says its kind, the next ones are its numbers, and those that are left are 0.
 use Prim.Native.Nat.{ℕ}
 use mathlib.Core.List.{List, [], _∷_}
-use Rattle.ddp.specs.declared.part.Outcome.{Outcome}
-use Rattle.ddp.specs.declared.part.Outcome.the-variants.{Done, Refused as NotDone}
+use Rattle.memory.specs.declared.part.Outcome.{Outcome}
+use Rattle.memory.specs.declared.part.Outcome.the-variants.{Done, Refused as NotDone}
 use Rattle.rdmap.specs.declared.stream.CloseAnswer.{CloseAnswer}
 use Rattle.rdmap.specs.declared.stream.CloseAnswer.the-variants.{Closed, Refused as NotClosed}
 use Rattle.rdmap.specs.declared.stream.TakeAnswer.{TakeAnswer}

@@ -1,10 +1,10 @@
--- The place after a put, and a number within the front of a slice, lie within the slice.
+-- The place after a put lies within the slice.
 -- Assumes nothing.
 use Prim.Native.Nat.{ℕ, _≤_}
 use mathlib.Core.Path.{_≡_, refl}
-use mathlib.Core.List.{List, _++_}
+use mathlib.Core.List.{List}
 use native.Mathlib.Omega.{arith}
-use lib.ListN.{length, length-append}
+use lib.ListN.{length}
 use Rattle.script.specs.Put.{putEnd}
 use Rattle.script.proofs.Placed.{put-within}
 
@@ -18,7 +18,3 @@ put-twice s t out mid at k e f h =
     let w = put-fits s out mid at k e h in
     let v = put-fits t mid mid _ refl f w in
     omega arith
-
--- a number within the front of a slice lies within the whole
-pub front-within : {n : ℕ} (front rest : List ℕ) (k : ℕ) → length front ≡ k → n ≤ k → n ≤ length (front ++ rest)
-front-within front rest k e h = simp length-append (omega arith)

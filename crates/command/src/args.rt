@@ -10,8 +10,8 @@ ghost use mathlib.Core.Path.{_≡_};
 ghost use Prim.Native.Nat.{_≤_, min};
 ghost use lib.ListN.{length};
 ghost use Rattle.io.specs.Counts.{Counts};
-ghost use Rattle.script.specs.Hex.{decodedOf};
-ghost use Rattle.command.specs.Args.{flagOf, hexOf};
+ghost use Rattle.script.specs.Hex.{decodedOf, decodedIn};
+ghost use Rattle.command.specs.Args.{lineWords, wordsAt, wordOf, flagOf, hexOf, numberAt, numbersOf};
 
 // One more word than any command has.
 const MAX_WORDS: usize = 11;
@@ -47,7 +47,7 @@ pub enum Flag {
 
 // The first words of a line.
 pub fn split(line: &[u8]) -> Words
-    ensures { λ r. ⌜ r .count ≤ 11 ⌝ }
+    ensures { λ r. ⌜ wordsAt (now (line .entry)) r ≡ lineWords (now (line .entry)) ⌝ }
 {
     let mut starts = [0usize; 11];
     let mut ends = [0usize; 11];
@@ -76,41 +76,59 @@ pub fn split(line: &[u8]) -> Words
 }
 
 // Word number i of the line, of no bytes where the line has none there.
-pub fn word(line: &[u8], words: Words, i: usize) -> &[u8] {
-    if i < MAX_WORDS {
-        let start = words.starts[i];
-        let end = words.ends[i];
-        if start <= end {
-            if end <= line.len() {
-                return &line[start..end];
-            }
-        }
+pub fn word(line: &[u8], words: Words, i: usize) -> &[u8]
+    ensures { λ r. ⌜ now r ≡ wordOf (wordsAt (now (line .entry)) words) i ⌝ }
+{
+    if words.count <= i {
+        return &line[..0];
     }
-    &line[..0]
+    if MAX_WORDS <= i {
+        return &line[..0];
+    }
+    let start = words.starts[i];
+    let end = words.ends[i];
+    if end < start {
+        return &line[..0];
+    }
+    if line.len() < end {
+        return &line[..0];
+    }
+    &line[start..end]
 }
 
-// Word number i of a line of `count` words as a number, 0 where the line has none there.
-fn number_at(line: &[u8], words: Words, count: usize, i: usize) -> Number {
-    if i < count {
+// Word number i of the line as a number, 0 where the line has none there.
+fn number_at(line: &[u8], words: Words, i: usize) -> Number
+    ensures { λ r. ⌜ r ≡ numberAt (wordsAt (now (line .entry)) words) i ⌝ }
+{
+    if i < words.count {
         return read_number(word(line, words, i));
     }
     Number::Value(0)
 }
 
 // The words after the first, where the line has `count` words and these are numbers.
-pub fn numbers_of(line: &[u8], words: Words, count: usize) -> Numbers {
-    let mut values = [0u64; 9];
+pub fn numbers_of(line: &[u8], words: Words, count: usize) -> Numbers
+    ensures { λ r. ⌜ r ≡ numbersOf (wordsAt (now (line .entry)) words) count ⌝ }
+{
+    let none = [0u64; 9];
     if words.count != count {
-        return Numbers { ok: false, values };
+        return Numbers {
+            ok: false,
+            values: none,
+        };
     }
+    let mut values = [0u64; 9];
     let mut i = 0;
     while i < MAX_NUMBERS {
-        match number_at(line, words, count, i + 1) {
+        match number_at(line, words, i + 1) {
             Number::Value(v) => {
                 values[i] = v;
                 i += 1;
             }
-            Number::Bad => return Numbers { ok: false, values },
+            Number::Bad => return Numbers {
+                ok: false,
+                values: none,
+            },
         }
     }
     Numbers { ok: true, values }
@@ -143,6 +161,7 @@ pub fn room(asked: u64, most: usize) -> usize
 pub fn hex_into(w: &[u8], out: &mut [u8]) -> Hex
     ensures within { λ r. ⌜ Counts (r .count) (now (out .exit)) ⌝ }
     ensures answer { λ r. ⌜ r ≡ hexOf (decodedOf (now (w .entry)) (length (now (out .entry)))) ⌝ }
+    ensures bytes { λ r. ⌜ now (out .exit) ≡ decodedIn (now (w .entry)) (now (out .entry)) ⌝ }
 {
     match decode(w, out) {
         Decoded::Bytes(n) => Hex { ok: true, count: n },

@@ -1,12 +1,13 @@
 -- The steps of the CRC are linear in exclusive or, so that a byte's eight bits come from a table.
 -- Assumes nothing.
+use mathlib.Core.Bool.{cond}
 use mathlib.Core.Path.{_≡_, refl, sym, ap, ap₂, _∙_, subst}
 use Prim.Native.Nat.{ℕ, zero, suc, _+_, _-_, _*_, _/_, _%_, _^_, _<_}
 use native.Mathlib.Nat.{pow-suc}
 use native.Mathlib.Omega.{arith}
 use lib.Dec.{eqb, lit<}
 use lib.Bits.{differ, bitXor, xor-zero-l, xor-zero-r, xor-self, xor-comm, xor-lt, xor-shifted, shifted-half, shifted-even}
-use Rattle.crc32c.specs.Crc.{pick, xor32, poly, crcBit, crcBits, crcByte}
+use Rattle.crc32c.specs.Crc.{xor32, poly, crcBit, crcBits, crcByte}
 use Rattle.crc32c.proofs.Xor.{xor-odd, xor-half, xor-medial, xor32-is}
 
 -- the polynomial, or nothing, by the bit that falls out
@@ -27,7 +28,7 @@ pub bit-is : (c : ℕ) → c < 2 ^ 32 → crcBit c ≡ bitXor (c / 2) (taken (c 
 unfolding crcBit
 bit-is c h = go (c / 2) (c % 2) (omega arith) (omega arith)
   where
-    go : (x d : ℕ) → x < 2 ^ 32 → d < 2 → pick (eqb d 0) x (xor32 x poly) ≡ bitXor x (taken d)
+    go : (x d : ℕ) → x < 2 ^ 32 → d < 2 → cond (eqb d 0) x (xor32 x poly) ≡ bitXor x (taken d)
     go x zero hx hd = sym (xor-zero-r x)
     go x (suc zero) hx hd = xor32-is x poly hx (lit< tt)
     go x (suc (suc d)) hx hd = absurd (omega arith)

@@ -1,16 +1,11 @@
 -- CRC-32C, bit by bit, as a fold over a running value.
 use mathlib.Core.Path.{_≡_}
 use Prim.Native.Nat.{ℕ, zero, suc, _+_, _-_, _*_, _/_, _%_, _^_, _<_}
-use mathlib.Core.Bool.{Bool, true, false}
+use mathlib.Core.Bool.{cond}
 use mathlib.Core.List.{List, [], _∷_}
 use lib.Dec.{eqb}
 use lib.ListN.{getD}
 use lib.Bits.{differ}
-
--- if-then-else on numbers
-abbrev pub pick : Bool → ℕ → ℕ → ℕ
-pick true a b = a
-pick false a b = b
 
 -- exclusive or over the k lowest bits, one bit a step
 abbrev pub xorBits : ℕ → ℕ → ℕ → ℕ
@@ -31,7 +26,7 @@ poly = 0x82F63B78
 
 -- one bit: the running value is halved, and where the bit that falls out is set the polynomial is taken from it
 unfoldable pub crcBit : ℕ → ℕ
-crcBit c = pick (eqb (c % 2) 0) (c / 2) (xor32 (c / 2) poly)
+crcBit c = cond (eqb (c % 2) 0) (c / 2) (xor32 (c / 2) poly)
 
 -- n bits, one after the other
 abbrev pub crcBits : ℕ → ℕ → ℕ

@@ -1,4 +1,3 @@
 pub mod Inside
-pub mod Laws
 pub mod Round
 pub mod Segments

@@ -68,8 +68,8 @@ untaggedBytes h =
     startBytes false (h .last) (h .control) (h .stag) ++ (be32 (h .qn) ++ (be32 (h .msn) ++ be32 (h .mo)))
 
 -- writing n bytes into room bytes: 13 output slice too small, or their length
-unfoldable pub written : ℕ → ℕ → Written
-written n room = pick (ltb room n) (NotWritten 13) (Length n)
+unfoldable pub headerWritten : ℕ → ℕ → Written
+headerWritten n room = pick (ltb room n) (NotWritten 13) (Length n)
 
 -- and the slice afterwards: "it keeps its bytes"; a writer "leaves the rest of its slice alone"
 unfoldable pub writtenOut : List ℕ → List ℕ → List ℕ

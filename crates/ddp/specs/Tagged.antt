@@ -2,13 +2,13 @@
 use Prim.Native.Nat.{ℕ}
 use lib.Dec.{eqb}
 use Rattle.wire.specs.Wire.{pick}
-use Rattle.ddp.specs.Window.{foundIn, spanned}
+use Rattle.memory.specs.Window.{foundIn, spanned}
 use Rattle.ddp.specs.Refusal.{stagNotAssociated, invalidStag, toWrap, boundsViolation}
-use Rattle.ddp.specs.declared.window.Window.{Window}
-use Rattle.ddp.specs.declared.window.Found.{Found}
-use Rattle.ddp.specs.declared.window.Found.the-variants.{Slot, Foreign, Missing}
-use Rattle.ddp.specs.declared.window.Span.{Span}
-use Rattle.ddp.specs.declared.window.Span.the-variants.{Inside, Wrap, Outside}
+use Rattle.memory.specs.declared.window.Window.{Window}
+use Rattle.memory.specs.declared.window.Found.{Found}
+use Rattle.memory.specs.declared.window.Found.the-variants.{Slot, Foreign, Missing}
+use Rattle.memory.specs.declared.window.Span.{Span}
+use Rattle.memory.specs.declared.window.Span.the-variants.{Inside, Wrap, Outside}
 use Rattle.ddp.specs.declared.tagged.Tagged.{Tagged}
 use Rattle.ddp.specs.declared.tagged.Tagged.the-variants.{Nowhere, At, Refused}
 

@@ -4,6 +4,7 @@ ghost use Prim.Native.Nat.{_≤_};
 ghost use lib.ListN.{length};
 ghost use Rattle.wire.specs.Wire.{put};
 ghost use Rattle.ddp.specs.Header.{
+  taggedBit,
   lastBit,
   controlOf,
   startBytes,
@@ -12,7 +13,7 @@ ghost use Rattle.ddp.specs.Header.{
   headerRead,
   taggedBytes,
   untaggedBytes,
-  written,
+  headerWritten,
   writtenOut,
 };
 use crate::refusal::NO_ROOM;
@@ -45,6 +46,13 @@ pub enum HeaderRead {
     Tagged(TaggedHeader),
     Untagged(UntaggedHeader),
     Refused(Refusal),
+}
+
+// Whether T is set in the first byte.
+pub fn is_tagged(b: u8) -> bool
+    ensures { λ r. ⌜ r ≡ taggedBit b ⌝ }
+{
+    128 <= b
 }
 
 // Whether L is set in the first byte.
@@ -101,7 +109,7 @@ pub fn read_header(ulpdu: &[u8]) -> HeaderRead
         return HeaderRead::Refused(SEGMENT_TOO_SHORT);
     }
     let b = ulpdu[0];
-    if 128 <= b {
+    if is_tagged(b) {
         return read_tagged(ulpdu);
     }
     read_untagged(ulpdu)
@@ -131,7 +139,7 @@ fn write_start(tagged: bool, last: bool, control: u8, stag: u32, out: &mut [u8])
 
 // Writes a tagged header at the start of out.
 pub fn write_tagged(h: TaggedHeader, out: &mut [u8]) -> Written
-    ensures { λ r. ⌜ (r ≡ written 14 (length (now (out .entry)))) × (now (out .exit) ≡ writtenOut (taggedBytes h) (now (out .entry))) ⌝ }
+    ensures { λ r. ⌜ (r ≡ headerWritten 14 (length (now (out .entry)))) × (now (out .exit) ≡ writtenOut (taggedBytes h) (now (out .entry))) ⌝ }
 {
     if out.len() < 14 {
         return Written::Refused(NO_ROOM);
@@ -143,7 +151,7 @@ pub fn write_tagged(h: TaggedHeader, out: &mut [u8]) -> Written
 
 // Writes an untagged header at the start of out.
 pub fn write_untagged(h: UntaggedHeader, out: &mut [u8]) -> Written
-    ensures { λ r. ⌜ (r ≡ written 18 (length (now (out .entry)))) × (now (out .exit) ≡ writtenOut (untaggedBytes h) (now (out .entry))) ⌝ }
+    ensures { λ r. ⌜ (r ≡ headerWritten 18 (length (now (out .entry)))) × (now (out .exit) ≡ writtenOut (untaggedBytes h) (now (out .entry))) ⌝ }
 {
     if out.len() < 18 {
         return Written::Refused(NO_ROOM);

@@ -1,19 +1,6 @@
 // Refusals, by number in the order of the paper's two tables.
 
-// Local refusals of this layer: nothing changes.
-// A number, key or right out of its range.
-pub const OUT_OF_RANGE: u8 = 1;
-// The window is live.
-pub const WINDOW_LIVE: u8 = 6;
-// The window is not live.
-pub const WINDOW_NOT_LIVE: u8 = 7;
-// The key is the last one that the window had.
-pub const KEY_AGAIN: u8 = 8;
-// A place, a length or base + length breaks a rule.
-pub const BAD_PLACE: u8 = 9;
-// Eight buffers wait.
-pub const BUFFERS_FULL: u8 = 10;
-// The output slice is too small.
+// A local refusal of this layer's writers: the output slice is too small.
 pub const NO_ROOM: u8 = 13;
 
 // Peer refusals of framing and placement: the rows 20 to 32, each with the layer, error type and code

@@ -13,11 +13,11 @@ use Rattle.mpa.specs.Fpdu.{fpduRead}
 use Rattle.mpa.specs.declared.FpduRead.{FpduRead}
 use Rattle.mpa.specs.declared.FpduRead.the-variants.{Wait as FpduWait, Refused as FpduRefused, Taken}
 use Rattle.ddp.specs.Header.{headerRead}
-use Rattle.segment.specs.Segment.{segmentOf, segmentFrom, segmentRead}
+use Rattle.ddp.specs.Segment.{segmentOf, segmentFrom, segmentRead}
 use Rattle.ddp.specs.declared.header.HeaderRead.{HeaderRead}
 use Rattle.ddp.specs.declared.header.HeaderRead.the-variants.{Tagged, Untagged, Refused}
-use Rattle.segment.specs.declared.SegmentRead.{SegmentRead}
-use Rattle.segment.specs.declared.SegmentRead.the-variants.{Wait, Refused as SegmentRefused, Tagged as TaggedSegment, Untagged as UntaggedSegment}
+use Rattle.ddp.specs.declared.segment.SegmentRead.{SegmentRead}
+use Rattle.ddp.specs.declared.segment.SegmentRead.the-variants.{Wait, Refused as SegmentRefused, Tagged as TaggedSegment, Untagged as UntaggedSegment}
 use Rattle.mpa.proofs.Taken.{ulpdu-inside}
 use Rattle.ddp.proofs.Segments.{tagged-from, untagged-from}
 

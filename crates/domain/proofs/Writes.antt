@@ -1,4 +1,4 @@
--- Receive does with a good Write what the quick way does: the FPDU is taken with no event, the stream and the windows stay as they
+-- Receive does with a valid Write what the fast path does: the FPDU is taken with no event, the stream and the windows stay as they
 -- were, and the payload is put in its place. By cases on T, the phase, the segment and the verdict; that the window is the one that
 -- the header names is read off the bytes, of which the STag is the four from 4.
 use Prim.Native.Nat.{ℕ, _+_, _≤_}
@@ -17,28 +17,28 @@ use Rattle.mpa.specs.declared.FpduRead.the-variants.{Wait as FpduWait, Refused 
 use Rattle.mpa.proofs.Taken.{took}
 use Rattle.ddp.specs.Header.{taggedFields, headerRead}
 use Rattle.ddp.specs.Place.{fits, placed}
-use Rattle.segment.specs.Segment.{segmentOf, segmentFrom, segmentRead}
-use Rattle.ddp.specs.Window.{windowAt, slotNamed}
+use Rattle.ddp.specs.Segment.{segmentOf, segmentFrom, segmentRead}
+use Rattle.memory.specs.Window.{windowAt, slotNamed}
 use Rattle.ddp.specs.declared.header.HeaderRead.{HeaderRead}
 use Rattle.ddp.specs.declared.header.HeaderRead.the-variants.{Tagged as TaggedRead, Untagged as UntaggedRead, Refused as HeaderRefused}
 use Rattle.ddp.specs.declared.header.TaggedHeader.{TaggedHeader}
-use Rattle.ddp.specs.declared.part.Part.{Part}
-use Rattle.segment.specs.declared.SegmentRead.{SegmentRead}
-use Rattle.segment.specs.declared.SegmentRead.the-variants.{Wait, Refused as SegmentRefused, Tagged, Untagged}
-use Rattle.ddp.specs.declared.window.Window.{Window}
+use Rattle.memory.specs.declared.part.Part.{Part}
+use Rattle.ddp.specs.declared.segment.SegmentRead.{SegmentRead}
+use Rattle.ddp.specs.declared.segment.SegmentRead.the-variants.{Wait, Refused as SegmentRefused, Tagged, Untagged}
+use Rattle.memory.specs.declared.window.Window.{Window}
 use Rattle.ddp.proofs.Segments.{tagged-from, tagged-fields}
-use Rattle.rdmap.specs.Stream.{readiness}
+use Rattle.rdmap.specs.Phase.{readiness}
 use Rattle.rdmap.specs.declared.message.Invalidate.the-variants.{NoStag}
 use Rattle.rdmap.specs.declared.message.Verdict.{Verdict}
 use Rattle.rdmap.specs.declared.message.Verdict.the-variants.{Refused, Nothing, Write, SendMore, SendLast, Read, Terminate}
-use Rattle.rdmap.specs.declared.stream.Readiness.{Readiness}
-use Rattle.rdmap.specs.declared.stream.Readiness.the-variants.{Ready, NotReady}
+use Rattle.rdmap.specs.declared.phase.Readiness.{Readiness}
+use Rattle.rdmap.specs.declared.phase.Readiness.the-variants.{Ready, NotReady}
 use Rattle.rdmap.specs.declared.stream.Stream.{Stream}
 use Rattle.domain.specs.Parts.{partsTaken, partsApplied, placedFrom, appliedBytes, taggedVerdict, partsJudged, partsPlaced, partsAnswered, partsWhen, partsBytesWhen, partsReceived, partsReceivedBytes}
-use Rattle.domain.specs.Write.{namedWindow, startsTagged, noWrite, writeBy, writeRead, writeWhen, goodWrite, written}
+use Rattle.domain.specs.Write.{namedWindow, startsTagged, noWrite, writeBy, writeRead, writeWhen, validWrite, writePlaced}
 use Rattle.domain.specs.declared.Event.the-variants.{NoEvent}
 use Rattle.domain.specs.declared.parts.PartsReceived.{PartsReceived}
-use Rattle.domain.specs.declared.write.GoodWrite.{GoodWrite}
+use Rattle.domain.specs.declared.write.ValidWrite.{ValidWrite}
 use Rattle.domain.proofs.Inside.{ends, segment-inside}
 
 -- ---- the window that the bytes name is the one that the header names
@@ -77,25 +77,25 @@ module _ (crc : Bool) (input : List ℕ) where
   unfolding segmentRead
   segment-named = framed (fpduRead crc input) refl
 
--- ---- a good Write
+-- ---- a valid Write
 module _ (p : Part) (ws : List Window) (number : ℕ) (s : Stream) (input bytes : List ℕ) where
-  -- if a Write is good, this is what receive answers and makes of the bytes
-  abbrev Same : GoodWrite → PartsReceived → List ℕ → Type 0
-  Same g r after = g .good ≡ true → (r ≡ partsTaken s (g .total) NoEvent NoStag) × (after ≡ written p g input bytes)
+  -- if a Write is valid, this is what receive answers and makes of the bytes
+  abbrev Same : ValidWrite → PartsReceived → List ℕ → Type 0
+  Same g r after = g .valid ≡ true → (r ≡ partsTaken s (g .total) NoEvent NoStag) × (after ≡ writePlaced p g input bytes)
 
   none : (r : PartsReceived) (after : List ℕ) → Same noWrite r after
   none r after e = absurd (false≢true e)
 
   -- no byte placed at the start of the part
-  nothing-placed : (total start : ℕ) → start ≤ length input → bytes ≡ written p (record { good = true; total = total; at = p .start; start = start; len = 0 }) input bytes
-  unfolding written placedFrom placed fits
+  nothing-placed : (total start : ℕ) → start ≤ length input → bytes ≡ writePlaced p (record { valid = true; total = total; at = p .start; start = start; len = 0 }) input bytes
+  unfolding writePlaced placedFrom placed fits
   nothing-placed total start l =
       simp (le-leb (start + 0) (length input) (omega arith), le-leb (p .start) (p .start) (omega arith), sub-self (p .start), le-leb 0 (length bytes) (omega arith))
 
   verdict-same :
       (total start len : ℕ) → start + len ≤ length input → (v : Verdict) →
       Same (writeBy p total start len v) (partsApplied s total v) (appliedBytes (p .start) v (part input start len) bytes)
-  unfolding partsApplied appliedBytes written
+  unfolding partsApplied appliedBytes writePlaced
   verdict-same total start len l (Refused r) = none _ _
   verdict-same total start len l Nothing = λ e. (refl, nothing-placed total start (omega arith))
   verdict-same total start len l (Write at) = λ e. (refl, simp (le-leb (start + len) (length input) l))
@@ -105,7 +105,7 @@ module _ (p : Part) (ws : List Window) (number : ℕ) (s : Stream) (input bytes 
   verdict-same total start len l (Terminate layer etype code) = none _ _
 
   segment-same :
-      (x : SegmentRead) → Named (s .crc) input x → ends x ≤ length input →
+      (x : SegmentRead) → Named (s .framing .crc) input x → ends x ≤ length input →
       Same (writeRead p (windowAt ws (namedWindow input)) number x) (partsAnswered s (partsJudged ws number s input x)) (partsPlaced p ws number s input bytes x)
   segment-same (Wait n) e l = none _ _
   segment-same (SegmentRefused r) e l = none _ _
@@ -114,14 +114,14 @@ module _ (p : Part) (ws : List Window) (number : ℕ) (s : Stream) (input bytes 
       (sym e) (verdict-same total start len l (taggedVerdict (windowAt ws (slotNamed (h .stag))) number h len))
   segment-same (Untagged total h start len) e l = none _ _
 
-  when-same : (r : Readiness) → Same (writeWhen p (windowAt ws (namedWindow input)) (s .crc) number input r) (partsWhen ws number s input r) (partsBytesWhen p ws number s input bytes r)
-  when-same Ready = segment-same (segmentRead (s .crc) input) (segment-named (s .crc) input) (segment-inside (s .crc) input)
+  when-same : (r : Readiness) → Same (writeWhen p (windowAt ws (namedWindow input)) (s .framing) number input r) (partsWhen ws number s input r) (partsBytesWhen p ws number s input bytes r)
+  when-same Ready = segment-same (segmentRead (s .framing .crc) input) (segment-named (s .framing .crc) input) (segment-inside (s .framing .crc) input)
   when-same (NotReady k) = none _ _
 
-  pub good-received : Same (goodWrite p (windowAt ws (namedWindow input)) (s .phase) (s .crc) number input) (partsReceived ws number s input) (partsReceivedBytes p ws number s input bytes)
-  unfolding goodWrite partsReceived partsReceivedBytes
-  good-received = go (startsTagged input)
+  pub valid-received : Same (validWrite p (windowAt ws (namedWindow input)) (s .phase) (s .framing) number input) (partsReceived ws number s input) (partsReceivedBytes p ws number s input bytes)
+  unfolding validWrite partsReceived partsReceivedBytes
+  valid-received = go (startsTagged input)
     where
-      go : (t : Bool) → Same (pick t (writeWhen p (windowAt ws (namedWindow input)) (s .crc) number input (readiness (s .phase))) noWrite) (partsWhen ws number s input (readiness (s .phase))) (partsBytesWhen p ws number s input bytes (readiness (s .phase)))
+      go : (t : Bool) → Same (pick t (writeWhen p (windowAt ws (namedWindow input)) (s .framing) number input (readiness (s .phase))) noWrite) (partsWhen ws number s input (readiness (s .phase))) (partsBytesWhen p ws number s input bytes (readiness (s .phase)))
       go true = when-same (readiness (s .phase))
       go false = none _ _

@@ -1,14 +1,16 @@
 -- What one domain does at each call, over its own state and its own bytes of the store. This is paper 01's "A's book" (a domain is the paper's branch).
 use Prim.Native.Nat.{ℕ}
-use mathlib.Core.Bool.{Bool, false}
+use mathlib.Core.Bool.{Bool}
 use mathlib.Core.List.{List, []}
 use lib.ListN.{getD, set, replicate}
 use lib.Dec.{leb}
 use Rattle.wire.specs.Wire.{pick}
-use Rattle.ddp.specs.Window.{noWindow, registered, dropped}
-use Rattle.ddp.specs.declared.part.Outcome.the-variants.{Refused as NotDone}
-use Rattle.ddp.specs.declared.window.Window.{Window}
-use Rattle.rdmap.specs.Stream.{phaseOf, closedStream, opened, closed, postedOn, takenFrom}
+use Rattle.memory.specs.Window.{noWindow, registered, dropped}
+use Rattle.memory.specs.declared.part.Outcome.the-variants.{Refused as NotDone}
+use Rattle.memory.specs.declared.window.Window.{Window}
+use Rattle.rdmap.specs.Phase.{phaseOf}
+use Rattle.rdmap.specs.Framing.{noFraming}
+use Rattle.rdmap.specs.Stream.{closedStream, opened, closed, postedOn, takenFrom}
 use Rattle.domain.specs.Parts.{partsReceived, partsReceivedBytes, lifted}
 use Rattle.domain.specs.declared.Domain.{Domain}
 use Rattle.domain.specs.declared.DomainDone.{DomainDone}
@@ -20,18 +22,14 @@ use Rattle.rdmap.specs.declared.stream.CloseAnswer.the-variants.{Refused as Not
 use Rattle.rdmap.specs.declared.stream.TakeAnswer.the-variants.{Refused as NotTaken}
 use Rattle.rdmap.specs.declared.stream.Stream.{Stream}
 
--- past the last stream, of which nothing is asked
+-- past the last stream, of which nothing is asked: as an array's default, its own arrays are empty
 abbrev pub noStream : Stream
 noStream = record {
   phase = phaseOf 0;
-  crc = false;
-  «send_msn» = 0;
-  «read_msn» = 0;
-  «terminate_msn» = 0;
-  opcode = 0;
-  taken = 0;
-  buffers = record { count = 0; entries = [] };
-  reads = record { count = 0; entries = [] };
+  framing = noFraming;
+  sends = record { msn = 0; opcode = 0; taken = 0; buffers = record { count = 0; entries = [] } };
+  reads = record { msn = 0; count = 0; entries = [] };
+  terminates = record { msn = 0 };
 }
 
 abbrev pub streamAt : Domain → ℕ → Stream

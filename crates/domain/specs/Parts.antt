@@ -5,24 +5,25 @@ use mathlib.Core.List.{List}
 use lib.ListN.{length, set}
 use lib.Dec.{leb}
 use Rattle.wire.specs.Wire.{pick, part}
-use Rattle.ddp.specs.Window.{windowAt, dropped, slotNamed}
+use Rattle.memory.specs.Window.{windowAt, dropped, slotNamed}
 use Rattle.ddp.specs.Tagged.{taggedOf}
 use Rattle.ddp.specs.Untagged.{untaggedOf}
 use Rattle.ddp.specs.Place.{placed}
-use Rattle.segment.specs.Segment.{segmentRead}
-use Rattle.ddp.specs.declared.part.Part.{Part}
+use Rattle.ddp.specs.Segment.{segmentRead}
+use Rattle.memory.specs.declared.part.Part.{Part}
 use Rattle.ddp.specs.declared.header.TaggedHeader.{TaggedHeader}
-use Rattle.segment.specs.declared.SegmentRead.{SegmentRead}
-use Rattle.segment.specs.declared.SegmentRead.the-variants.{Wait as SegmentWait, Refused as SegmentRefused, Tagged as TaggedSegment, Untagged as UntaggedSegment}
-use Rattle.ddp.specs.declared.window.Window.{Window}
+use Rattle.ddp.specs.declared.segment.SegmentRead.{SegmentRead}
+use Rattle.ddp.specs.declared.segment.SegmentRead.the-variants.{Wait as SegmentWait, Refused as SegmentRefused, Tagged as TaggedSegment, Untagged as UntaggedSegment}
+use Rattle.memory.specs.declared.window.Window.{Window}
 use Rattle.rdmap.specs.Message.{writeVerdict, queuesOf, untaggedVerdict}
-use Rattle.rdmap.specs.Stream.{readiness, endedBy, terminatedBy, sendingOn, sentOn, queuedOn}
+use Rattle.rdmap.specs.Phase.{readiness}
+use Rattle.rdmap.specs.Stream.{endedBy, terminatedBy, sendingOn, sentOn, queuedOn}
 use Rattle.rdmap.specs.declared.message.Invalidate.{Invalidate}
 use Rattle.rdmap.specs.declared.message.Invalidate.the-variants.{NoStag, Stag}
 use Rattle.rdmap.specs.declared.message.Verdict.{Verdict}
 use Rattle.rdmap.specs.declared.message.Verdict.the-variants.{Refused as VerdictRefused, Nothing, Write, SendMore, SendLast, Read, Terminate}
-use Rattle.rdmap.specs.declared.stream.Readiness.{Readiness}
-use Rattle.rdmap.specs.declared.stream.Readiness.the-variants.{Ready, NotReady}
+use Rattle.rdmap.specs.declared.phase.Readiness.{Readiness}
+use Rattle.rdmap.specs.declared.phase.Readiness.the-variants.{Ready, NotReady}
 use Rattle.rdmap.specs.declared.stream.Stream.{Stream}
 use Rattle.domain.specs.declared.Domain.{Domain}
 use Rattle.domain.specs.declared.Event.{Event}
@@ -77,7 +78,7 @@ partsVerdict ws number s input (SegmentRefused r) = VerdictRefused r
 partsVerdict ws number s input (TaggedSegment total h start len) =
     taggedVerdict (windowAt ws (slotNamed (h .stag))) number h len
 partsVerdict ws number s input (UntaggedSegment total h start len) =
-    untaggedVerdict ws number s h (part input start len) (untaggedOf (queuesOf s) (h .qn) (h .msn) (h .mo) (length (part input start len)))
+    untaggedVerdict ws number (s .sends) h (part input start len) (untaggedOf (queuesOf s) (h .qn) (h .msn) (h .mo) (length (part input start len)))
 
 -- and the FPDU that it came in, with its total: "handles that first FPDU only"
 abbrev pub partsJudged : List Window → ℕ → Stream → List ℕ → SegmentRead → Judged
@@ -106,11 +107,11 @@ partsAnswered s (Fpdu total v) = partsApplied s total v
 
 -- the local refusals 3 and 5 first
 abbrev pub partsWhen : List Window → ℕ → Stream → List ℕ → Readiness → PartsReceived
-partsWhen ws number s input Ready = partsAnswered s (partsJudged ws number s input (segmentRead (s .crc) input))
+partsWhen ws number s input Ready = partsAnswered s (partsJudged ws number s input (segmentRead (s .framing .crc) input))
 partsWhen ws number s input (NotReady k) = partsUnchanged s (Refused k)
 
 abbrev pub partsBytesWhen : Part → List Window → ℕ → Stream → List ℕ → List ℕ → Readiness → List ℕ
-partsBytesWhen p ws number s input bytes Ready = partsPlaced p ws number s input bytes (segmentRead (s .crc) input)
+partsBytesWhen p ws number s input bytes Ready = partsPlaced p ws number s input bytes (segmentRead (s .framing .crc) input)
 partsBytesWhen p ws number s input bytes (NotReady k) = bytes
 
 -- receive on a stream of domain number: the answer, the stream and what it invalidated

@@ -4,7 +4,7 @@
 //
 // Read `Domain` first, then `receive`, which takes the first FPDU of some bytes for a stream, and
 // `Answer`, what it answers; the module `parts` does it over what it needs of the domain, and `write`
-// is the quick way of a good Write. The definitions, in specs/Domain.antt, are the paper's "A's book".
+// is the fast path of a valid Write. The definitions, in specs/Domain.antt, are the paper's "A's book".
 ghost use mathlib.Core.Path.{_≡_};
 ghost use Prim.Native.Nat.{_<_};
 ghost use Rattle.domain.specs.Domain.{
@@ -21,10 +21,10 @@ ghost use Rattle.domain.specs.Domain.{
 };
 use crate::parts::kill;
 use crate::parts::receive_parts;
-use ddp::part::Outcome;
-use ddp::part::Part;
 use ddp::refusal::Refusal;
-use ddp::window::Window;
+use memory::part::Outcome;
+use memory::part::Part;
+use memory::window::Window;
 use rdmap::stream::CloseAnswer;
 use rdmap::stream::Stream;
 use rdmap::stream::TakeAnswer;
@@ -203,7 +203,7 @@ pub fn register(
 {
     let windows = d.windows;
     let part = d.part;
-    let done = ddp::window::register(windows, part, slot, key, base, len, place, rights);
+    let done = memory::window::register(windows, part, slot, key, base, len, place, rights);
     let outcome = done.outcome;
     let after = done.windows;
     let mut next = d;
@@ -219,7 +219,7 @@ pub fn drop_window(d: Domain, slot: u64) -> DomainDone
     ensures { λ r. ⌜ r ≡ domainDropped d slot ⌝ }
 {
     let windows = d.windows;
-    let done = ddp::window::drop_window(windows, slot);
+    let done = memory::window::drop_window(windows, slot);
     let outcome = done.outcome;
     let after = done.windows;
     let mut next = d;

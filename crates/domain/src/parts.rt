@@ -16,21 +16,21 @@ ghost use Rattle.domain.specs.Parts.{
   partsReceivedBytes,
   killed,
 };
-ghost use Rattle.segment.specs.Segment.{segmentRead};
+ghost use Rattle.ddp.specs.Segment.{segmentRead};
 use crate::Answer;
 use crate::Event;
 use crate::placing::place_by;
-use ddp::part::Part;
-use ddp::window::Window;
-use ddp::window::slot_named;
+use ddp::segment::SegmentRead;
+use ddp::segment::read_segment;
+use memory::part::Part;
+use memory::window::Window;
+use memory::window::slot_named;
 use rdmap::message::Invalidate;
 use rdmap::message::Verdict;
 use rdmap::message::judge_tagged_segment;
 use rdmap::message::judge_untagged_segment;
-use rdmap::stream::Readiness;
+use rdmap::phase::Readiness;
 use rdmap::stream::Stream;
-use segment::SegmentRead;
-use segment::read_segment;
 
 // What receive answers, the stream after it, and the window that is then dead.
 pub struct PartsReceived {
@@ -117,9 +117,10 @@ fn judge_first(
     store: &mut [u8],
     bytes: &[u8],
 ) -> Judged
-    ensures { λ r. ⌜ (r ≡ partsJudged windows number s (now (bytes .entry)) (segmentRead (s .crc) (now (bytes .entry)))) × (now (store .exit) ≡ partsPlaced part windows number s (now (bytes .entry)) (now (store .entry)) (segmentRead (s .crc) (now (bytes .entry)))) ⌝ }
+    ensures { λ r. ⌜ (r ≡ partsJudged windows number s (now (bytes .entry)) (segmentRead (s .framing .crc) (now (bytes .entry)))) × (now (store .exit) ≡ partsPlaced part windows number s (now (bytes .entry)) (now (store .entry)) (segmentRead (s .framing .crc) (now (bytes .entry)))) ⌝ }
 {
-    match read_segment(s.crc, bytes) {
+    let framing = s.framing;
+    match read_segment(framing.crc, bytes) {
         SegmentRead::Wait(n) => Judged::Wait(n),
         SegmentRead::Refused(refusal) => Judged::Fpdu(0, Verdict::Refused(refusal)),
         SegmentRead::Tagged {
@@ -171,7 +172,8 @@ pub fn receive_parts(
 ) -> PartsReceived
     ensures { λ r. ⌜ (r ≡ partsReceived windows number s (now (bytes .entry))) × (now (store .exit) ≡ partsReceivedBytes part windows number s (now (bytes .entry)) (now (store .entry))) ⌝ }
 {
-    match s.ready() {
+    let phase = s.phase;
+    match phase.ready() {
         Readiness::Ready => match judge_first(part, windows, s, number, store, bytes) {
             Judged::Wait(n) => unchanged(s, Answer::Wait(n)),
             Judged::Fpdu(total, verdict) => apply(s, total, verdict),
@@ -187,7 +189,7 @@ pub fn kill(windows: [Window; 16], which: Invalidate) -> [Window; 16]
     match which {
         Invalidate::NoStag => windows,
         Invalidate::Stag { slot, stag: _ } => {
-            let done = ddp::window::drop_window(windows, slot as u64);
+            let done = memory::window::drop_window(windows, slot as u64);
             done.windows
         }
     }

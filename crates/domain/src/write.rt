@@ -1,34 +1,35 @@
-// A good Write, the quick way: what is asked of the bytes, of the one window that they name, and of
+// The fast path of a valid Write: what is asked of the bytes, of the one window that they name, and of
 // two fields of the stream, so that a caller who holds a device in place copies neither windows nor
 // stream for it. Nothing changes but the bytes of the store that its payload is put in.
 //
-// Read `GoodWrite` first, then `judge_write` and `put_write`. The definitions are in specs/Write.antt;
-// that receive does the same with a good Write is the law of proofs/Writes.antt.
+// Read `ValidWrite` first, then `judge_write` and `put_write`. The definitions are in specs/Write.antt;
+// that receive does the same with a valid Write is the law of proofs/Writes.antt.
 ghost use mathlib.Core.Path.{_≡_};
-ghost use Rattle.segment.specs.Segment.{segmentRead};
+ghost use Rattle.ddp.specs.Segment.{segmentRead};
 ghost use Rattle.domain.specs.Write.{
   namedWindow,
   startsTagged,
   noWrite,
   writeBy,
   writeRead,
-  goodWrite,
-  written,
+  validWrite,
+  writePlaced,
 };
 use crate::placing::place_from;
-use ddp::part::Part;
-use ddp::window::Window;
-use ddp::window::slot_named;
+use ddp::segment::SegmentRead;
+use ddp::segment::read_segment;
+use memory::part::Part;
+use memory::window::Window;
+use memory::window::slot_named;
+use rdmap::framing::Framing;
 use rdmap::message::Verdict;
 use rdmap::message::judge_tagged_segment;
-use rdmap::stream::Phase;
-use segment::SegmentRead;
-use segment::read_segment;
+use rdmap::phase::Phase;
 
-// What a good Write is: its FPDU's total, the place of the store that its payload goes to, and the
+// What a valid Write is: its FPDU's total, the place of the store that its payload goes to, and the
 // payload's len bytes from start.
-pub struct GoodWrite {
-    pub good: bool,
+pub struct ValidWrite {
+    pub valid: bool,
     pub total: usize,
     pub at: u64,
     pub start: usize,
@@ -52,15 +53,15 @@ fn starts_tagged(bytes: &[u8]) -> bool
     if bytes.len() < 3 {
         return false;
     }
-    128 <= bytes[2]
+    ddp::header::is_tagged(bytes[2])
 }
 
-// No good Write.
-pub fn no_write() -> GoodWrite
+// No valid Write.
+pub fn no_write() -> ValidWrite
     ensures { λ r. ⌜ r ≡ noWrite ⌝ }
 {
-    GoodWrite {
-        good: false,
+    ValidWrite {
+        valid: false,
         total: 0,
         at: 0,
         start: 0,
@@ -68,21 +69,21 @@ pub fn no_write() -> GoodWrite
     }
 }
 
-// A good Write by the verdict on a tagged segment; an empty one places nothing.
-fn write_by(part: Part, total: usize, start: usize, len: usize, verdict: Verdict) -> GoodWrite
+// A valid Write by the verdict on a tagged segment; an empty one places nothing.
+fn write_by(part: Part, total: usize, start: usize, len: usize, verdict: Verdict) -> ValidWrite
     ensures { λ r. ⌜ r ≡ writeBy part total start len verdict ⌝ }
 {
     match verdict {
         Verdict::Refused(_) => no_write(),
-        Verdict::Nothing => GoodWrite {
-            good: true,
+        Verdict::Nothing => ValidWrite {
+            valid: true,
             total,
             at: part.start as u64,
             start,
             len: 0,
         },
-        Verdict::Write(at) => GoodWrite {
-            good: true,
+        Verdict::Write(at) => ValidWrite {
+            valid: true,
             total,
             at,
             start,
@@ -109,8 +110,8 @@ fn write_by(part: Part, total: usize, start: usize, len: usize, verdict: Verdict
     }
 }
 
-// The first FPDU of bytes for an open stream, if it is a good Write.
-fn judge_segment(part: Part, w: Window, crc: bool, number: u64, bytes: &[u8]) -> GoodWrite
+// The first FPDU of bytes for an open stream, if it is a valid Write.
+fn judge_segment(part: Part, w: Window, crc: bool, number: u64, bytes: &[u8]) -> ValidWrite
     ensures { λ r. ⌜ r ≡ writeRead part w number (segmentRead crc (now (bytes .entry))) ⌝ }
 {
     match read_segment(crc, bytes) {
@@ -134,31 +135,31 @@ fn judge_segment(part: Part, w: Window, crc: bool, number: u64, bytes: &[u8]) ->
     }
 }
 
-// The first FPDU of bytes for a stream of the domain of this number, if it is a good Write; w is the
+// The first FPDU of bytes for a stream of the domain of this number, if it is a valid Write; w is the
 // window that they name. T is asked first, so that the CRC of a Send is not computed here.
 pub fn judge_write(
     part: Part,
     w: Window,
     phase: Phase,
-    crc: bool,
+    framing: Framing,
     number: u64,
     bytes: &[u8],
-) -> GoodWrite
-    ensures { λ r. ⌜ r ≡ goodWrite part w phase crc number (now (bytes .entry)) ⌝ }
+) -> ValidWrite
+    ensures { λ r. ⌜ r ≡ validWrite part w phase framing number (now (bytes .entry)) ⌝ }
 {
     if starts_tagged(bytes) {
         let state = phase.state;
         if state == 1 {
-            return judge_segment(part, w, crc, number, bytes);
+            return judge_segment(part, w, framing.crc, number, bytes);
         }
         return no_write();
     }
     no_write()
 }
 
-// Puts the payload of a good Write in its place of the domain's bytes, which are lent.
-pub fn put_write(part: Part, write: GoodWrite, store: &mut [u8], bytes: &[u8])
-    ensures { λ _. ⌜ now (store .exit) ≡ written part write (now (bytes .entry)) (now (store .entry)) ⌝ }
+// Puts the payload of a valid Write in its place of the domain's bytes, which are lent.
+pub fn put_write(part: Part, write: ValidWrite, store: &mut [u8], bytes: &[u8])
+    ensures { λ _. ⌜ now (store .exit) ≡ writePlaced part write (now (bytes .entry)) (now (store .entry)) ⌝ }
 {
     let start = write.start;
     let len = write.len;

@@ -1,26 +1,24 @@
--- Nights of the device: a run is a list of calls, each by the contract of the function called, so that no second model stands
--- between the theorem and the code, and what a domain sees of a run. Its book is specs/Book.antt.
+-- One call of the device, by the contract of the function called (`Post`, as the prover makes it of the source), so that no second
+-- model stands between the theorem and the code. Its book is specs/Book.antt; a run of calls is proofs/Runs.antt.
 use Prim.Native.Nat.{ℕ}
 use mathlib.Core.Path.{_≡_}
 use mathlib.Core.Bool.{Bool, true, false}
-use mathlib.Core.List.{List, [], _∷_}
+use mathlib.Core.List.{List, []}
 use lib.ListN.{length}
 use lib.Dec.{eqb}
 use denote.Ref.{now, RefT, at-last}
 use contract.Lifetimes.{Lfts}
 use Rattle.wire.specs.Wire.{pick}
-use Rattle.ddp.specs.declared.part.Outcome.{Outcome}
-use Rattle.ddp.specs.declared.part.Outcome.the-variants.{Done, Refused as NotDone}
+use Rattle.memory.specs.declared.part.Outcome.{Outcome}
+use Rattle.memory.specs.declared.part.Outcome.the-variants.{Done, Refused as NotDone}
 use Rattle.rnic.specs.Rnic.{domainAt, bytesOf}
-use Rattle.isolation.specs.Book.{Call, Answer, View, Seen, Opening, owner}
+use Rattle.isolation.specs.Book.{Call, Answer, View, Opening}
 use Rattle.isolation.specs.Book.Call.{openStream, closeStream, register, dropWindow, post, receive, takeRead, live, free}
 use Rattle.isolation.specs.Book.Answer.{done, closed, received, taken, counted}
+use Rattle.isolation.specs.Number.{Numbered}
 use Rattle.rnic.specs.declared.Rnic.{Rnic}
 use Rattle.rnic.specs.declared.RnicDone.{RnicDone}
-use Rattle.rnic.specs.declared.RnicClosed.{RnicClosed}
-use Rattle.rnic.specs.declared.RnicTaken.{RnicTaken}
 use Rattle.rnic.specs.declared.RnicReceived.{RnicReceived}
-use Rattle.rnic.specs.declared.Count.{Count}
 use Rattle.rnic.proofs.open.Reads as open-reads
 use Rattle.rnic.proofs.open_stream.Reads as open-stream-reads
 use Rattle.rnic.proofs.close_stream.Reads as close-stream-reads
@@ -31,78 +29,75 @@ use Rattle.rnic.proofs.receive.Reads as receive-reads
 use Rattle.rnic.proofs.take.Reads as take-reads
 use Rattle.rnic.proofs.live_count.Reads as live-count-reads
 use Rattle.rnic.proofs.lowest_free.Reads as lowest-free-reads
+use Rattle.calls.proofs.call.Reads as call-reads
 
 -- the device, and the store of which it was opened
 pub record World : Type 0 where
   pub dev : Rnic
   pub mem : List ℕ
 
--- one call, by the contract of the function itself. `receive` is lent a slice x of length k, which is the store if it is as long,
--- and is a slice of the caller's otherwise: l is what the slice holds afterwards
-abbrev pub Step : World → Call → Answer → World → Type 0
-Step w (openStream n crc) a w₁ =
-    (r : RnicDone) ×
-    open-stream-reads.Post tt (w .dev, (n, (crc, tt))) r (w .dev, (n, (crc, tt))) ×
-    (a ≡ done (r .outcome)) ×
-    (w₁ ≡ record { dev = r .rnic; mem = w .mem })
-Step w (closeStream n) a w₁ =
-    (r : RnicClosed) ×
-    close-stream-reads.Post tt (w .dev, (n, tt)) r (w .dev, (n, tt)) ×
-    (a ≡ closed (r .answer)) ×
-    (w₁ ≡ record { dev = r .rnic; mem = w .mem })
-Step w (register i key base len place rights) a w₁ =
-    (r : RnicDone) ×
-    register-reads.Post tt (w .dev, (i, (key, (base, (len, (place, (rights, tt))))))) r (w .dev, (i, (key, (base, (len, (place, (rights, tt))))))) ×
-    (a ≡ done (r .outcome)) ×
-    (w₁ ≡ record { dev = r .rnic; mem = w .mem })
-Step w (dropWindow i) a w₁ =
-    (r : RnicDone) ×
-    drop-window-reads.Post tt (w .dev, (i, tt)) r (w .dev, (i, tt)) ×
-    (a ≡ done (r .outcome)) ×
-    (w₁ ≡ record { dev = r .rnic; mem = w .mem })
-Step w (post n start len) a w₁ =
-    (r : RnicDone) ×
-    post-reads.Post tt (w .dev, (n, (start, (len, tt)))) r (w .dev, (n, (start, (len, tt)))) ×
-    (a ≡ done (r .outcome)) ×
-    (w₁ ≡ record { dev = r .rnic; mem = w .mem })
-Step w (receive n input k) a w₁ =
-    (κs : Lfts 2) × (x : RefT (List ℕ)) × (y : RefT (List ℕ)) × (r : RnicReceived) × (l : List ℕ) ×
-    (length (now x) ≡ k) ×
-    (now y ≡ input) ×
-    (k ≡ w .dev .len → now x ≡ w .mem) ×
-    receive-reads.Post κs (w .dev, (x, (n, (y, tt)))) r (w .dev, (at-last x l, (n, (y, tt)))) ×
-    (a ≡ received (r .answer)) ×
-    (w₁ ≡ record { dev = r .rnic; mem = pick (eqb k (w .dev .len)) l (w .mem) })
-Step w (takeRead n) a w₁ =
-    (r : RnicTaken) ×
-    take-reads.Post tt (w .dev, (n, tt)) r (w .dev, (n, tt)) ×
-    (a ≡ taken (r .answer)) ×
-    (w₁ ≡ record { dev = r .rnic; mem = w .mem })
-Step w (live d) a w₁ =
-    (r : Count) ×
-    live-count-reads.Post tt (w .dev, (d, tt)) r (w .dev, (d, tt)) ×
-    (a ≡ counted r) ×
-    (w₁ ≡ w)
-Step w (free d) a w₁ =
-    (r : Count) ×
-    lowest-free-reads.Post tt (w .dev, (d, tt)) r (w .dev, (d, tt)) ×
-    (a ≡ counted r) ×
-    (w₁ ≡ w)
-
--- a whole list of calls (the paper's night)
-pub data Run : World → List Call → World → Type 0 where
-  stop : {w : World} → Run w [] w
-  next : {w w₂ : World} {c : Call} {cs : List Call} (a : Answer) (w₁ : World) → Step w c a w₁ → Run w₁ cs w₂ → Run w (c ∷ cs) w₂
-
--- ---- what domain A has in a world
+-- what domain A has in a world
 abbrev pub view : ℕ → World → View
 view A w = record { size = w .dev .len; dom = domainAt (w .dev) A; bytes = bytesOf (domainAt (w .dev) A) (w .mem) }
 
--- ---- what A saw of a run: after each of its own calls
-unfoldable pub saw : (A : ℕ) {w w₁ : World} {cs : List Call} → Run w cs w₁ → List Seen
-saw A stop = []
-saw A (next {c = c} a w₁ s r) = pick (eqb (owner c) A) (record { answer = a; after = view A w₁ } ∷ saw A r) (saw A r)
+-- a call that is lent no slice, with arguments x: some result that meets the contract, the answer in it, and the device in it
+pub record PlainStep {X R : Type 0} (Post : Lfts 0 → X → R → X → Type 0) (x : X) (answer : R → Answer) (rnic : R → Rnic) (w : World) (a : Answer) (w₁ : World) : Type 0 where
+  pub result : R
+  pub contract : Post tt x result x
+  pub answered : a ≡ answer result
+  pub world : w₁ ≡ record { dev = rnic result; mem = w .mem }
 
+-- a slice of some size lent to a call, and what it holds afterwards. It is the store if it is as long as that, and the caller's own otherwise
+pub record Lent (w : World) (size : ℕ) : Type 0 where
+  pub slice : RefT (List ℕ)
+  pub after : List ℕ
+  pub long : length (now slice) ≡ size
+  pub store : size ≡ w .dev .len → now slice ≡ w .mem
+
+-- the store after a call that was lent a slice
+abbrev pub storeAfter : (w : World) (size : ℕ) → Lent w size → List ℕ
+storeAfter w size s = pick (eqb size (w .dev .len)) (s .after) (w .mem)
+
+-- receive, which is lent a slice of length k
+pub record ReceiveStep (w : World) (n : ℕ) (input : List ℕ) (k : ℕ) (a : Answer) (w₁ : World) : Type 0 where
+  pub lifetimes : Lfts 2
+  pub lent : Lent w k
+  pub bytes : RefT (List ℕ)
+  pub given : now bytes ≡ input
+  pub result : RnicReceived
+  pub contract : receive-reads.Post lifetimes (w .dev, (lent .slice, (n, (bytes, tt)))) result (w .dev, (at-last (lent .slice) (lent .after), (n, (bytes, tt))))
+  pub answered : a ≡ received (result .answer)
+  pub world : w₁ ≡ record { dev = result .rnic; mem = storeAfter w k lent }
+
+-- one call, by the device's own function
+abbrev pub Step : World → Call → Answer → World → Type 0
+Step w (openStream n crc) = PlainStep open-stream-reads.Post (w .dev, (n, (crc, tt))) (λ r. done (r .outcome)) (λ r. r .rnic) w
+Step w (closeStream n) = PlainStep close-stream-reads.Post (w .dev, (n, tt)) (λ r. closed (r .answer)) (λ r. r .rnic) w
+Step w (register i key base len place rights) =
+    PlainStep register-reads.Post (w .dev, (i, (key, (base, (len, (place, (rights, tt))))))) (λ r. done (r .outcome)) (λ r. r .rnic) w
+Step w (dropWindow i) = PlainStep drop-window-reads.Post (w .dev, (i, tt)) (λ r. done (r .outcome)) (λ r. r .rnic) w
+Step w (post n start len) = PlainStep post-reads.Post (w .dev, (n, (start, (len, tt)))) (λ r. done (r .outcome)) (λ r. r .rnic) w
+Step w (receive n input k) = ReceiveStep w n input k
+Step w (takeRead n) = PlainStep take-reads.Post (w .dev, (n, tt)) (λ r. taken (r .answer)) (λ r. r .rnic) w
+Step w (live d) = PlainStep live-count-reads.Post (w .dev, (d, tt)) counted (λ r. w .dev) w
+Step w (free d) = PlainStep lowest-free-reads.Post (w .dev, (d, tt)) counted (λ r. w .dev) w
+
+-- one call, by its number: `call` of the crate `calls`, which is lent a slice whatever the call
+pub record NumberStep (w : World) (c : Numbered) (words : List ℕ) (w₁ : World) : Type 0 where
+  pub lifetimes : Lfts 4
+  pub lent : Lent w (c .size)
+  pub args : RefT (List ℕ)
+  pub args-are : now args ≡ c .args
+  pub bytes : RefT (List ℕ)
+  pub given : now bytes ≡ c .input
+  pub answer : RefT (List ℕ)
+  pub result : Rnic
+  pub contract :
+      call-reads.Post lifetimes (w .dev, (lent .slice, (c .number, (args, (bytes, (answer, tt))))))
+      result (w .dev, (at-last (lent .slice) (lent .after), (c .number, (args, (bytes, (at-last answer words, tt))))))
+  pub world : w₁ ≡ record { dev = result; mem = storeAfter w (c .size) lent }
+
+-- ---- the opening
 abbrev pub accepted : Outcome → Bool
 accepted Done = true
 accepted (NotDone n) = false

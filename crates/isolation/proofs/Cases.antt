@@ -12,11 +12,11 @@ use Rattle.wire.specs.Wire.{both, same, put, be16, be32, be64}
 use Rattle.wire.proofs.Laws.{both-true, same-eq}
 use Rattle.mpa.specs.Fpdu.{totalOf, fpduRead, fpduReadOf}
 use Rattle.mpa.specs.Startup.{startupOf}
-use Rattle.ddp.specs.Part.{inPart}
-use Rattle.ddp.specs.Window.{inRange, windowFits, registered, dropped, named, foundIn, wraps, spanned}
-use Rattle.ddp.specs.Buffer.{posted, poppedOf}
+use Rattle.memory.specs.Part.{inPart}
+use Rattle.memory.specs.Window.{inRange, windowFits, registered, dropped, named, foundIn, wraps, spanned}
+use Rattle.memory.specs.Buffer.{posted, poppedOf}
 use Rattle.ddp.specs.Header.{taggedFields, untaggedFields, taggedRead, untaggedRead, headerRead}
-use Rattle.segment.specs.Segment.{segmentRead}
+use Rattle.ddp.specs.Segment.{segmentRead}
 use Rattle.ddp.specs.Tagged.{taggedOf}
 use Rattle.ddp.specs.Untagged.{untaggedIn, untaggedOf, nextMsn}
 use Rattle.ddp.specs.Place.{fits, placed}

@@ -9,16 +9,16 @@ use borrow.Author.Tests.{leb-true}
 use Rattle.wire.specs.Wire.{pick, part}
 use Rattle.wire.proofs.Laws.{length-put}
 use Rattle.ddp.specs.Place.{fits, placed}
-use Rattle.segment.specs.Segment.{segmentRead}
-use Rattle.ddp.specs.declared.part.Part.{Part}
-use Rattle.segment.specs.declared.SegmentRead.{SegmentRead}
-use Rattle.segment.specs.declared.SegmentRead.the-variants.{Wait, Refused as SegmentRefused, Tagged, Untagged}
-use Rattle.ddp.specs.declared.window.Window.{Window}
-use Rattle.rdmap.specs.Stream.{readiness}
+use Rattle.ddp.specs.Segment.{segmentRead}
+use Rattle.memory.specs.declared.part.Part.{Part}
+use Rattle.ddp.specs.declared.segment.SegmentRead.{SegmentRead}
+use Rattle.ddp.specs.declared.segment.SegmentRead.the-variants.{Wait, Refused as SegmentRefused, Tagged, Untagged}
+use Rattle.memory.specs.declared.window.Window.{Window}
+use Rattle.rdmap.specs.Phase.{readiness}
 use Rattle.rdmap.specs.declared.message.Verdict.{Verdict}
 use Rattle.rdmap.specs.declared.message.Verdict.the-variants.{Refused as VerdictRefused, Nothing, Write, SendMore, SendLast, Read, Terminate}
-use Rattle.rdmap.specs.declared.stream.Readiness.{Readiness}
-use Rattle.rdmap.specs.declared.stream.Readiness.the-variants.{Ready, NotReady}
+use Rattle.rdmap.specs.declared.phase.Readiness.{Readiness}
+use Rattle.rdmap.specs.declared.phase.Readiness.the-variants.{Ready, NotReady}
 use Rattle.rdmap.specs.declared.stream.Stream.{Stream}
 use Rattle.domain.specs.Domain.{streamAt, domainOpened, domainClosed, domainPosted, domainTaken, domainRegistered, domainDropped, domainReceived, domainReceivedBytes}
 use Rattle.domain.specs.Parts.{appliedBytes, placedFrom, partsVerdict, partsPlaced, partsBytesWhen, partsReceived, partsReceivedBytes, lifted}
@@ -104,7 +104,7 @@ module _ (p : Part) (ws : List Window) (number : ℕ) (s : Stream) (input l : Li
   segment-many (Untagged total h start len) = applied-many (p .start) (partsVerdict ws number s input (Untagged total h start len)) (part input start len) l
 
   when-many : (r : Readiness) → length (partsBytesWhen p ws number s input l r) ≡ length l
-  when-many Ready = segment-many (segmentRead (s .crc) input)
+  when-many Ready = segment-many (segmentRead (s .framing .crc) input)
   when-many (NotReady k) = refl
 
   parts-many : length (partsReceivedBytes p ws number s input l) ≡ length l

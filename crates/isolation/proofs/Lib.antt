@@ -1,7 +1,14 @@
 pub mod Calls
 pub mod Cases
+pub mod Induction
 pub mod Isolation
 pub mod Kept
+pub mod Lifted
+pub mod Numbers
+pub mod Openings
 pub mod Parts
 pub mod Possible
 pub mod Reachable
+pub mod Runs
+pub mod Steps
+pub mod WellFormed

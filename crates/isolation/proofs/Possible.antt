@@ -1,63 +1,124 @@
--- The theorem of proofs/Isolation.antt is not about nothing: every list of calls, with whatever numbers, bytes and lent lengths,
--- is a run from every opening, accepted or refused. Each step is made of the definition's own result.
+-- The theorem of proofs/Isolation.antt is not about nothing: every list of calls, with whatever numbers, bytes and lent lengths, is a run
+-- from every opening, accepted or refused. Each step is made of the definition's own result.
 use Prim.Native.Nat.{ℕ}
 use mathlib.Core.Path.{_≡_, refl, sym, _∙_}
 use mathlib.Core.List.{List, [], _∷_}
 use native.Mathlib.Decide.{ℕ-discrete as decEq}
 use lib.ListN.{length, replicate, length-replicate}
 use denote.Ref.{RefT}
+use contract.Lifetimes.{Lfts}
 use Rattle.rnic.specs.Rnic.{openedRnic, rnicOpened, rnicClosed, rnicPosted, rnicTaken, rnicRegistered, rnicDropped, rnicReceived, rnicReceivedStore, rnicLive, rnicFree}
+use Rattle.rnic.specs.declared.Rnic.{Rnic}
+use Rattle.calls.specs.Call.{called, calledStore}
 use Rattle.isolation.specs.Book.{Call, Answer, Opening}
-use Rattle.isolation.proofs.Calls.{World, Step, Run, Opened}
 use Rattle.isolation.specs.Book.Call.{openStream, closeStream, register, dropWindow, post, receive, takeRead, live, free}
-use Rattle.isolation.proofs.Calls.Run.{stop, next}
-use Rattle.isolation.proofs.Isolation.{Fit, step-fit, opened-fit}
+use Rattle.isolation.specs.Number.{Numbered}
+use Rattle.isolation.proofs.Calls.{World, PlainStep, Lent, Opened}
+use Rattle.isolation.proofs.Runs.{Interface, Run, OpenedRun, functions}
+use Rattle.isolation.proofs.Runs.Run.{stop, next}
+use Rattle.isolation.proofs.Induction.{made-fit}
+use Rattle.isolation.proofs.Numbers.{numbers}
+use Rattle.isolation.proofs.Openings.{opened-fit}
+use Rattle.isolation.proofs.WellFormed.{Fit}
+
+-- a request that can be made in a world, with its reply and the world after it
+pub record Possible (I : Interface) (w : World) (c : I .Request) : Type 0 where
+  pub reply : I .Reply
+  pub after : World
+  pub made : I .Made w c reply after
 
 -- a reference to a slice
-abbrev slice : List ℕ → RefT (List ℕ)
-slice l = record { ptr = (0, 0); name = 0; now = l }
+abbrev reference : List ℕ → RefT (List ℕ)
+reference l = record { ptr = (0, 0); name = 0; now = l }
 
--- a step that a call can make, with its answer and the world after it
-record Made (w : World) (c : Call) : Type 0 where
-  answer : Answer
-  after : World
-  step : Step w c answer after
+-- a slice to lend: the store where it is as long as that, and zeros otherwise
+record Slice (w : World) (k : ℕ) : Type 0 where
+  bytes : List ℕ
+  long : length bytes ≡ k
+  store : k ≡ w .dev .len → bytes ≡ w .mem
 
-heard : (w : World) (n : ℕ) (input : List ℕ) (k : ℕ) (l : List ℕ) → length l ≡ k → (k ≡ w .dev .len → l ≡ w .mem) → Made w (receive n input k)
-heard w n input k l e h = record {
-  answer = _;
-  after = _;
-  step = (([], ([], tt)), slice l, slice input, rnicReceived (w .dev) (length l) n input, rnicReceivedStore (w .dev) n input l, e, refl, h, (refl, refl), refl, refl);
-}
-
-made : (w : World) → length (w .mem) ≡ w .dev .len → (c : Call) → Made w c
-made w e (openStream n crc) = record { answer = _; after = _; step = (rnicOpened (w .dev) n crc, refl, refl, refl) }
-made w e (closeStream n) = record { answer = _; after = _; step = (rnicClosed (w .dev) n, refl, refl, refl) }
-made w e (register i key base len place rights) = record { answer = _; after = _; step = (rnicRegistered (w .dev) i key base len place rights, refl, refl, refl) }
-made w e (dropWindow i) = record { answer = _; after = _; step = (rnicDropped (w .dev) i, refl, refl, refl) }
-made w e (post n start len) = record { answer = _; after = _; step = (rnicPosted (w .dev) n start len, refl, refl, refl) }
-made w e (receive n input k) = go (decEq k (w .dev .len))
+slice : (w : World) → length (w .mem) ≡ w .dev .len → (k : ℕ) → Slice w k
+slice w e k = go (decEq k (w .dev .len))
   where
-    go : Dec (k ≡ w .dev .len) → Made w (receive n input k)
-    go (yes h) = heard w n input k (w .mem) (e ∙ sym h) (λ q. refl)
-    go (no h) = heard w n input k (replicate k 0) (length-replicate k 0) (λ q. absurd (h q))
-made w e (takeRead n) = record { answer = _; after = _; step = (rnicTaken (w .dev) n, refl, refl, refl) }
-made w e (live d) = record { answer = _; after = _; step = (rnicLive (w .dev) d, refl, refl, refl) }
-made w e (free d) = record { answer = _; after = _; step = (rnicFree (w .dev) d, refl, refl, refl) }
+    go : Dec (k ≡ w .dev .len) → Slice w k
+    go (yes h) = record { bytes = w .mem; long = e ∙ sym h; store = λ q. refl }
+    go (no h) = record { bytes = replicate k 0; long = length-replicate k 0; store = λ q. absurd (h q) }
 
-pub run-of : (w : World) → Fit w → (cs : List Call) → (w₁ : World) × Run w cs w₁
-run-of w f [] = (w, stop)
-run-of w f (c ∷ cs) =
-    let m = made w (f .long) c in
-    let r = run-of (m .after) (step-fit w (m .answer) (m .after) c f (m .step)) cs in
-    (r .0, next (m .answer) (m .after) (m .step) (r .1))
+-- that slice lent, holding l afterwards
+abbrev lend : {w : World} {k : ℕ} → Slice w k → List ℕ → Lent w k
+lend x l = record { slice = reference (x .bytes); after = l; long = x .long; store = x .store }
 
-pub opening-of : (o : Opening) (mem : List ℕ) → length mem ≡ o .len → (w : World) × Opened o mem w
-opening-of o mem e = (_, (openedRnic (o .len) (o .s₀) (o .e₀) (o .s₁) (o .e₁) (o .s₂) (o .e₂) (o .s₃) (o .e₃), refl, (λ a. e), refl))
+-- ---- a call by the device's own function
+returned :
+    {X R : Type 0} {Post : Lfts 0 → X → R → X → Type 0} {x : X} {answer : R → Answer} {rnic : R → Rnic} {w : World} (z : R) → Post tt x z x →
+    PlainStep Post x answer rnic w (answer z) (record { dev = rnic z; mem = w .mem })
+returned z p = record { result = z; contract = p; answered = refl; world = refl }
 
--- a whole night of any calls from any opening of a store
-pub night-of : (o : Opening) (mem : List ℕ) → length mem ≡ o .len → (cs : List Call) → (w : World) × Opened o mem w × (w₁ : World) × Run w cs w₁
-night-of o mem e cs =
-    let x = opening-of o mem e in
-    let r = run-of (x .0) (opened-fit o mem (x .0) (x .1)) cs in
-    (x .0, x .1, r .0, r .1)
+pub by-function : (w : World) → Fit w → (c : Call) → Possible functions w c
+by-function w f (openStream n crc) = record { reply = _; after = _; made = returned (rnicOpened (w .dev) n crc) refl }
+by-function w f (closeStream n) = record { reply = _; after = _; made = returned (rnicClosed (w .dev) n) refl }
+by-function w f (register i key base len place rights) = record { reply = _; after = _; made = returned (rnicRegistered (w .dev) i key base len place rights) refl }
+by-function w f (dropWindow i) = record { reply = _; after = _; made = returned (rnicDropped (w .dev) i) refl }
+by-function w f (post n start len) = record { reply = _; after = _; made = returned (rnicPosted (w .dev) n start len) refl }
+by-function w f (takeRead n) = record { reply = _; after = _; made = returned (rnicTaken (w .dev) n) refl }
+by-function w f (live d) = record { reply = _; after = _; made = returned (rnicLive (w .dev) d) refl }
+by-function w f (free d) = record { reply = _; after = _; made = returned (rnicFree (w .dev) d) refl }
+by-function w f (receive n input k) =
+    let x = slice w (f .long) k in
+    record {
+      reply = _;
+      after = _;
+      made = record {
+        lifetimes = ([], ([], tt));
+        lent = lend x (rnicReceivedStore (w .dev) n input (x .bytes));
+        bytes = reference input;
+        given = refl;
+        result = rnicReceived (w .dev) (length (x .bytes)) n input;
+        contract = (refl, refl);
+        answered = refl;
+        world = refl;
+      };
+    }
+
+-- ---- a call by its number
+pub by-number : (w : World) → Fit w → (c : Numbered) → Possible numbers w c
+by-number w f c =
+    let x = slice w (f .long) (c .size) in
+    record {
+      reply = called (w .dev) (length (x .bytes)) (c .number) (c .args) (c .input) .words;
+      after = _;
+      made = record {
+        lifetimes = ([], ([], ([], ([], tt))));
+        lent = lend x (calledStore (w .dev) (c .number) (c .args) (c .input) (x .bytes));
+        args = reference (c .args);
+        args-are = refl;
+        bytes = reference (c .input);
+        given = refl;
+        answer = reference [];
+        result = called (w .dev) (length (x .bytes)) (c .number) (c .args) (c .input) .rnic;
+        contract = (refl, refl, refl);
+        world = refl;
+      };
+    }
+
+-- ---- a whole run of any calls, from any opening of a store
+module _ (I : Interface) (possible : (w : World) → Fit w → (c : I .Request) → Possible I w c) where
+  pub run-of : (w : World) → Fit w → (cs : List (I .Request)) → (w₁ : World) × Run I w cs w₁
+  run-of w f [] = (w, stop)
+  run-of w f (c ∷ cs) =
+      let m = possible w f c in
+      let r = run-of (m .after) (made-fit I f (m .made)) cs in
+      (r .0, next (m .reply) (m .after) (m .made) (r .1))
+
+  pub opened-run : (o : Opening) (mem : List ℕ) → length mem ≡ o .len → (cs : List (I .Request)) → (r : OpenedRun I o mem) × (r .calls ≡ cs)
+  opened-run o mem e cs =
+      let s : Opened o mem _ = (openedRnic (o .len) (o .s₀) (o .e₀) (o .s₁) (o .e₁) (o .s₂) (o .e₂) (o .s₃) (o .e₃), refl, (λ a. e), refl) in
+      let r = run-of _ (opened-fit o mem _ s) cs in
+      (record { start = _; opened = s; calls = cs; end = r .0; run = r .1 }, refl)
+
+-- every list of calls by the device's own functions, and every one by number
+pub every-run : (o : Opening) (mem : List ℕ) → length mem ≡ o .len → (cs : List Call) → (r : OpenedRun functions o mem) × (r .calls ≡ cs)
+every-run = opened-run functions by-function
+
+pub every-run-by-number : (o : Opening) (mem : List ℕ) → length mem ≡ o .len → (cs : List Numbered) → (r : OpenedRun numbers o mem) × (r .calls ≡ cs)
+every-run-by-number = opened-run numbers by-number

@@ -13,44 +13,47 @@ use borrow.Author.Tests.{leb-true, le-leb, ltb-true, eqb-true}
 use borrow.Rule.Slice.PartMut.{mid-len}
 use Rattle.wire.specs.Wire.{pick, both, part, put}
 use Rattle.wire.proofs.Laws.{length-part}
-use Rattle.ddp.specs.Part.{inPart}
-use Rattle.ddp.specs.Window.{noWindow, windowAt, slotNamed, found, spanned}
-use Rattle.ddp.specs.Buffer.{noBuffer, posted, poppedOf}
+use Rattle.memory.specs.Part.{inPart}
+use Rattle.memory.specs.Window.{noWindow, windowAt, slotNamed, found, spanned}
+use Rattle.memory.specs.Buffer.{noBuffer, posted, poppedOf}
 use Rattle.ddp.specs.Tagged.{taggedOf}
 use Rattle.ddp.specs.Untagged.{untaggedIn, untaggedOf}
 use Rattle.ddp.specs.Place.{fits, placed}
 use Rattle.ddp.specs.Refusal.{invalidMsn, noBufferWaits, invalidMo, messageTooLong}
-use Rattle.segment.specs.Segment.{segmentRead}
-use Rattle.ddp.specs.declared.part.Part.{Part}
-use Rattle.ddp.specs.declared.buffer.Buffer.{Buffer}
-use Rattle.ddp.specs.declared.buffer.Buffers.{Buffers}
-use Rattle.ddp.specs.declared.buffer.Posted.{Posted}
+use Rattle.ddp.specs.Segment.{segmentRead}
+use Rattle.memory.specs.declared.part.Part.{Part}
+use Rattle.memory.specs.declared.buffer.Buffer.{Buffer}
+use Rattle.memory.specs.declared.buffer.Buffers.{Buffers}
+use Rattle.memory.specs.declared.buffer.Posted.{Posted}
 use Rattle.ddp.specs.declared.header.UntaggedHeader.{UntaggedHeader}
-use Rattle.segment.specs.declared.SegmentRead.{SegmentRead}
-use Rattle.segment.specs.declared.SegmentRead.the-variants.{Wait, Refused as SegmentRefused, Tagged as TaggedSegment, Untagged as UntaggedSegment}
+use Rattle.ddp.specs.declared.segment.SegmentRead.{SegmentRead}
+use Rattle.ddp.specs.declared.segment.SegmentRead.the-variants.{Wait, Refused as SegmentRefused, Tagged as TaggedSegment, Untagged as UntaggedSegment}
 use Rattle.ddp.specs.declared.tagged.Tagged.{Tagged}
 use Rattle.ddp.specs.declared.tagged.Tagged.the-variants.{Nowhere, At as TaggedAt, Refused as TaggedRefused}
 use Rattle.ddp.specs.declared.untagged.Untagged.{Untagged}
 use Rattle.ddp.specs.declared.untagged.Untagged.the-variants.{At as UntaggedAt, Refused as UntaggedRefused}
-use Rattle.ddp.specs.declared.window.Window.{Window}
-use Rattle.ddp.specs.declared.window.Found.{Found}
-use Rattle.ddp.specs.declared.window.Found.the-variants.{Slot, Foreign, Missing}
-use Rattle.ddp.specs.declared.window.Span.{Span}
-use Rattle.ddp.specs.declared.window.Span.the-variants.{Inside, Wrap, Outside}
-use Rattle.ddp.proofs.Inside.{Lies, WindowIn, WindowsIn, BuffersIn, registered-in, dropped-in, tagged-in, posted-in, popped-in}
+use Rattle.memory.specs.declared.window.Window.{Window}
+use Rattle.memory.specs.declared.window.Found.{Found}
+use Rattle.memory.specs.declared.window.Found.the-variants.{Slot, Foreign, Missing}
+use Rattle.memory.specs.declared.window.Span.{Span}
+use Rattle.memory.specs.declared.window.Span.the-variants.{Inside, Wrap, Outside}
+use Rattle.ddp.proofs.Inside.{tagged-in}
+use Rattle.memory.proofs.Inside.{Lies, WindowIn, WindowsIn, BuffersIn, registered-in, dropped-in, posted-in, popped-in}
 use Rattle.rdmap.specs.Message.{opcodeOf, controlled, after, mayWrite, mayRead, writeVerdict, fitsQueue, takesStag, invalidated, sendVerdict, sourceIn, sourceOf, readVerdict, terminateVerdict, messageVerdict, queuesOf, untaggedVerdict}
 use Rattle.rdmap.specs.Read.{requestAt}
 use Rattle.rdmap.specs.Refusal.{noWriteRight, noReadRight, malformed}
-use Rattle.rdmap.specs.Stream.{noBuffers, closedStream, isClosed, readiness, opened, closed, postedWhen, postedOn, takenWhen, takenFrom}
+use Rattle.rdmap.specs.Phase.{isClosed, readiness}
+use Rattle.rdmap.specs.Sends.{noBuffers}
+use Rattle.rdmap.specs.Stream.{closedStream, opened, closed, postedWhen, postedOn, takenWhen, takenFrom}
 use Rattle.rdmap.specs.declared.message.Control.{Control}
-use Rattle.rdmap.specs.declared.message.Control.the-variants.{Good, Refused as ControlRefused}
+use Rattle.rdmap.specs.declared.message.Control.the-variants.{Valid, Refused as ControlRefused}
 use Rattle.rdmap.specs.declared.message.Invalidate.{Invalidate}
 use Rattle.rdmap.specs.declared.message.Invalidate.the-variants.{NoStag, Stag}
 use Rattle.rdmap.specs.declared.message.Verdict.{Verdict}
 use Rattle.rdmap.specs.declared.message.Verdict.the-variants.{Refused as VerdictRefused, Nothing, Write, SendMore, SendLast, Read, Terminate}
 use Rattle.rdmap.specs.declared.read.ReadRequest.{ReadRequest}
-use Rattle.rdmap.specs.declared.stream.Readiness.{Readiness}
-use Rattle.rdmap.specs.declared.stream.Readiness.the-variants.{Ready, NotReady}
+use Rattle.rdmap.specs.declared.phase.Readiness.{Readiness}
+use Rattle.rdmap.specs.declared.phase.Readiness.the-variants.{Ready, NotReady}
 use Rattle.rdmap.specs.declared.stream.Stream.{Stream}
 use Rattle.rdmap.specs.declared.stream.StreamDone.{StreamDone}
 use Rattle.rdmap.specs.declared.stream.StreamClosed.{StreamClosed}
@@ -65,12 +68,17 @@ use Rattle.domain.specs.declared.Received.{Received}
 use Rattle.domain.specs.declared.parts.Judged.{Judged}
 use Rattle.domain.specs.declared.parts.Judged.the-variants.{Wait as JudgedWait, Fpdu}
 use Rattle.domain.proofs.Inside.{inside}
-use Rattle.rnic.specs.Rnic.{domainAt, bytesOf, partFits}
-use Rattle.isolation.specs.Book.{Call, Answer, View, Seen, Opening, owner, heard, book, startOf, endOf}
-use Rattle.isolation.proofs.Calls.{World, Step, Run, Opened, view}
+use Rattle.memory.specs.Part.{partFits}
+use Rattle.rnic.specs.Rnic.{domainAt, bytesOf}
+use Rattle.isolation.specs.Book.{Call, Answer, View, Observation, Opening, ownerIn, bookReceive, book, partStart, partEnd}
 use Rattle.isolation.specs.Book.Call.{openStream, closeStream, register, dropWindow, post, receive, takeRead, live, free}
-use Rattle.isolation.proofs.Calls.Run.{stop, next}
-use Rattle.isolation.proofs.Isolation.{Fit, part-fits, step-fit, own, alien, run-fit, opened-fit, opened-view}
+use Rattle.isolation.proofs.Calls.{World, Step, Opened, view}
+use Rattle.isolation.proofs.Runs.{Interface, Run}
+use Rattle.isolation.proofs.Runs.Run.{stop, next}
+use Rattle.isolation.proofs.Induction.{made-fit, run-fit}
+use Rattle.isolation.proofs.Openings.{opened-fit, opened-view}
+use Rattle.isolation.proofs.Steps.{own, alien}
+use Rattle.isolation.proofs.WellFormed.{Fit, part-fits}
 
 -- the buffers that wait, of eight entries, lie in a part
 pub record Waits (p : Part) (bs : Buffers) : Type 0 where
@@ -82,7 +90,7 @@ pub record Waits (p : Part) (bs : Buffers) : Type 0 where
 pub record Sound (d : Domain) : Type 0 where
   pub windowed : WindowsIn (d .part) (d .windows)
   pub four : length (d .streams) ≡ 4
-  pub waiting : (i : ℕ) → i < 4 → Waits (d .part) (streamAt d i .buffers)
+  pub waiting : (i : ℕ) → i < 4 → Waits (d .part) (streamAt d i .sends .buffers)
 
 -- ---- the buffers of a stream
 module _ (p : Part) where
@@ -122,64 +130,64 @@ module _ (p : Part) where
       record { long = z .0; few = z .1; inside = popped-in p bs (omega arith) (w .inside) }
 
   -- ---- a stream's calls
-  done-waits : (t : Bool) (x y : StreamDone) → Waits p (x .stream .buffers) → Waits p (y .stream .buffers) → Waits p (pick t x y .stream .buffers)
+  done-waits : (t : Bool) (x y : StreamDone) → Waits p (x .stream .sends .buffers) → Waits p (y .stream .sends .buffers) → Waits p (pick t x y .stream .sends .buffers)
   done-waits true x y f g = f
   done-waits false x y f g = g
 
-  close-waits : (t : Bool) (x y : StreamClosed) → Waits p (x .stream .buffers) → Waits p (y .stream .buffers) → Waits p (pick t x y .stream .buffers)
+  close-waits : (t : Bool) (x y : StreamClosed) → Waits p (x .stream .sends .buffers) → Waits p (y .stream .sends .buffers) → Waits p (pick t x y .stream .sends .buffers)
   close-waits true x y f g = f
   close-waits false x y f g = g
 
-  take-waits : (t : Bool) (x y : StreamTaken) → Waits p (x .stream .buffers) → Waits p (y .stream .buffers) → Waits p (pick t x y .stream .buffers)
+  take-waits : (t : Bool) (x y : StreamTaken) → Waits p (x .stream .sends .buffers) → Waits p (y .stream .sends .buffers) → Waits p (pick t x y .stream .sends .buffers)
   take-waits true x y f g = f
   take-waits false x y f g = g
 
-  module _ (s : Stream) (w : Waits p (s .buffers)) where
-    opened-waits : (crc : Bool) → Waits p (opened s crc .stream .buffers)
+  module _ (s : Stream) (w : Waits p (s .sends .buffers)) where
+    opened-waits : (crc : Bool) → Waits p (opened s crc .stream .sends .buffers)
     unfolding opened
     opened-waits crc = done-waits (isClosed (s .phase)) _ _ none-waits w
 
-    closed-waits : Waits p (closed s .stream .buffers)
+    closed-waits : Waits p (closed s .stream .sends .buffers)
     unfolding closed
     closed-waits = close-waits (isClosed (s .phase)) _ _ w none-waits
 
-    posted-on-when : (start len : ℕ) (r : Readiness) → Waits p (postedWhen s p start len r .stream .buffers)
-    posted-on-when start len Ready = posted-waits (s .buffers) start len w
+    posted-on-when : (start len : ℕ) (r : Readiness) → Waits p (postedWhen s p start len r .stream .sends .buffers)
+    posted-on-when start len Ready = posted-waits (s .sends .buffers) start len w
     posted-on-when start len (NotReady k) = w
 
-    posted-on-waits : (start len : ℕ) → Waits p (postedOn s p start len .stream .buffers)
+    posted-on-waits : (start len : ℕ) → Waits p (postedOn s p start len .stream .sends .buffers)
     unfolding postedOn
     posted-on-waits start len = posted-on-when start len (readiness (s .phase))
 
-    taken-when-waits : (r : Readiness) → Waits p (takenWhen s r .stream .buffers)
+    taken-when-waits : (r : Readiness) → Waits p (takenWhen s r .stream .sends .buffers)
     taken-when-waits Ready = take-waits (eqb (s .reads .count) 0) _ _ w w
     taken-when-waits (NotReady k) = w
 
-    taken-waits : Waits p (takenFrom s .stream .buffers)
+    taken-waits : Waits p (takenFrom s .stream .sends .buffers)
     unfolding takenFrom
     taken-waits = taken-when-waits (readiness (s .phase))
 
     -- ---- receive
-    applied-waits : (total : ℕ) (v : Verdict) → Waits p (partsApplied s total v .stream .buffers)
+    applied-waits : (total : ℕ) (v : Verdict) → Waits p (partsApplied s total v .stream .sends .buffers)
     unfolding partsApplied
     applied-waits total (VerdictRefused r) = w
     applied-waits total Nothing = w
     applied-waits total (Write at) = w
     applied-waits total (SendMore at opcode taken) = w
-    applied-waits total (SendLast at opcode start len inv) = popped-waits (s .buffers) w
+    applied-waits total (SendLast at opcode start len inv) = popped-waits (s .sends .buffers) w
     applied-waits total (Read r) = w
     applied-waits total (Terminate layer etype code) = w
 
-    answered-waits : (j : Judged) → Waits p (partsAnswered s j .stream .buffers)
+    answered-waits : (j : Judged) → Waits p (partsAnswered s j .stream .sends .buffers)
     answered-waits (JudgedWait n) = w
     answered-waits (Fpdu total v) = applied-waits total v
 
     module _ (ws : List Window) (number : ℕ) (input : List ℕ) where
-      when-waits : (r : Readiness) → Waits p (partsWhen ws number s input r .stream .buffers)
-      when-waits Ready = answered-waits (partsJudged ws number s input (segmentRead (s .crc) input))
+      when-waits : (r : Readiness) → Waits p (partsWhen ws number s input r .stream .sends .buffers)
+      when-waits Ready = answered-waits (partsJudged ws number s input (segmentRead (s .framing .crc) input))
       when-waits (NotReady n) = w
 
-      received-waits : Waits p (partsReceived ws number s input .stream .buffers)
+      received-waits : Waits p (partsReceived ws number s input .stream .sends .buffers)
       unfolding partsReceived
       received-waits = when-waits (readiness (s .phase))
 
@@ -193,22 +201,22 @@ pub new-sound : (start end : ℕ) → Sound (newDomain start end)
 new-sound start end = record {
   windowed = λ i l. absurd (let no : true ≡ false = sym l ∙ ap (λ (x : Window). x .live) (none-live 16 i) in let z : _≡_ {A = ℕ} 0 1 = cc in omega arith);
   four = refl;
-  waiting = λ i h. subst (λ (s : Stream). Waits (record { start = start; end = end }) (s .buffers)) (sym (getD-replicate 4 i closedStream noStream h)) (none-waits (record { start = start; end = end }));
+  waiting = λ i h. subst (λ (s : Stream). Waits (record { start = start; end = end }) (s .sends .buffers)) (sym (getD-replicate 4 i closedStream noStream h)) (none-waits (record { start = start; end = end }));
 }
 
 -- ---- one entry changed
-with-stream : (d : Domain) (slot : ℕ) (s : Stream) → Sound d → slot < 4 → Waits (d .part) (s .buffers) → Sound (withStream d slot s)
+with-stream : (d : Domain) (slot : ℕ) (s : Stream) → Sound d → slot < 4 → Waits (d .part) (s .sends .buffers) → Sound (withStream d slot s)
 with-stream d slot s k h w = record {
   windowed = k .windowed;
   four = length-set (d .streams) slot s ∙ k .four;
   waiting = λ i l. go i l (decEq i slot);
 }
   where
-    go : (i : ℕ) → i < 4 → Dec (i ≡ slot) → Waits (d .part) (getD (set (d .streams) slot s) i noStream .buffers)
-    go i l (no e) = subst (λ (x : Stream). Waits (d .part) (x .buffers)) (sym (getD-set-other (d .streams) slot i s noStream e)) (k .waiting i l)
+    go : (i : ℕ) → i < 4 → Dec (i ≡ slot) → Waits (d .part) (getD (set (d .streams) slot s) i noStream .sends .buffers)
+    go i l (no e) = subst (λ (x : Stream). Waits (d .part) (x .sends .buffers)) (sym (getD-set-other (d .streams) slot i s noStream e)) (k .waiting i l)
     go i l (yes e) =
-        subst (λ (n : ℕ). Waits (d .part) (getD (set (d .streams) slot s) n noStream .buffers)) (sym e)
-        (subst (λ (x : Stream). Waits (d .part) (x .buffers)) (sym (getD-set-same (d .streams) slot s noStream (omega (arith, k .four)))) w)
+        subst (λ (n : ℕ). Waits (d .part) (getD (set (d .streams) slot s) n noStream .sends .buffers)) (sym e)
+        (subst (λ (x : Stream). Waits (d .part) (x .sends .buffers)) (sym (getD-set-same (d .streams) slot s noStream (omega (arith, k .four)))) w)
 
 with-windows : (d : Domain) (ws : List Window) → Sound d → WindowsIn (d .part) ws → Sound (withWindows d ws)
 with-windows d ws k all = record { windowed = all; four = k .four; waiting = k .waiting }
@@ -279,7 +287,7 @@ module _ (d : Domain) (k : Sound d) where
       k
 
 -- ---- over a run
-seen-sound : (t : Bool) (x y : Seen) → Sound (x .after .dom) → Sound (y .after .dom) → Sound (pick t x y .after .dom)
+seen-sound : (t : Bool) (x y : Observation Answer) → Sound (x .after .dom) → Sound (y .after .dom) → Sound (pick t x y .after .dom)
 seen-sound true x y f g = f
 seen-sound false x y f g = g
 
@@ -289,7 +297,7 @@ book-sound A v k (closeStream n) = closed-sound (v .dom) k (n % 4)
 book-sound A v k (register w key base len place rights) = registered-sound (v .dom) k (w % 16) key base len place rights
 book-sound A v k (dropWindow w) = dropped-sound (v .dom) k (w % 16)
 book-sound A v k (post n start len) = posted-sound (v .dom) k (n % 4) start len
-book-sound A v k (receive n input size) = seen-sound (eqb size (v .size)) (heard A v n input) _ (received-sound (v .dom) k A (n % 4) input) k
+book-sound A v k (receive n input size) = seen-sound (eqb size (v .size)) (bookReceive A v n input) _ (received-sound (v .dom) k A (n % 4) input) k
 book-sound A v k (takeRead n) = taken-sound (v .dom) k (n % 4)
 book-sound A v k (live d) = k
 book-sound A v k (free d) = k
@@ -299,21 +307,23 @@ abbrev pub AllSound : World → Type 0
 AllSound w = (A : ℕ) → A < 4 → Sound (domainAt (w .dev) A)
 
 pub step-sound : (w : World) (c : Call) (a : Answer) (w₁ : World) → Fit w → AllSound w → Step w c a w₁ → AllSound w₁
-step-sound w c a w₁ f k s A hA = go (decEq (owner c) A)
+step-sound w c a w₁ f k s A hA = go (decEq (ownerIn (w .dev) c) A)
   where
-    go : Dec (owner c ≡ A) → Sound (domainAt (w₁ .dev) A)
-    go (yes o) = subst Sound (sym (ap (λ (x : Seen). x .after .dom) (own A hA w c a w₁ f o s))) (book-sound A (view A w) (k A hA) c)
+    go : Dec (ownerIn (w .dev) c ≡ A) → Sound (domainAt (w₁ .dev) A)
+    go (yes o) = subst Sound (sym (ap (λ (x : Observation Answer). x .after .dom) (own A hA w c a w₁ f o s))) (book-sound A (view A w) (k A hA) c)
     go (no o) = subst Sound (sym (ap (λ (x : View). x .dom) (alien A hA w c a w₁ f o s))) (k A hA)
 
-pub run-sound : {w w₁ : World} {cs : List Call} → Fit w → AllSound w → Run w cs w₁ → AllSound w₁
+pub run-sound : {I : Interface} {w w₁ : World} {cs : List (I .Request)} → Fit w → AllSound w → Run I w cs w₁ → AllSound w₁
 run-sound f k stop = k
-run-sound {w = w} f k (next {c = c} a w₁ s r) = run-sound (step-fit w a w₁ c f s) (step-sound w c a w₁ f k s) r
+run-sound {I = I} f k (next {w = w} {c = c} x w₁ s r) =
+    let n = I .is-step w c x w₁ s in
+    run-sound (made-fit I f s) (step-sound w (I .call c) (n .0) w₁ f k (n .1)) r
 
 pub opening-sound : (o : Opening) (mem : List ℕ) (w : World) → Opened o mem w → AllSound w
-opening-sound o mem w s A hA = subst Sound (sym (ap (λ (x : View). x .dom) (opened-view o mem w s A hA))) (new-sound (startOf A o) (endOf A o))
+opening-sound o mem w s A hA = subst Sound (sym (ap (λ (x : View). x .dom) (opened-view o mem w s A hA))) (new-sound (partStart A o) (partEnd A o))
 
 -- every domain of a world that a run from an opening reaches
-pub reached-sound : (o : Opening) (mem : List ℕ) {w w₁ : World} {cs : List Call} → Opened o mem w → Run w cs w₁ → AllSound w₁
+pub reached-sound : (o : Opening) (mem : List ℕ) {I : Interface} {w w₁ : World} {cs : List (I .Request)} → Opened o mem w → Run I w cs w₁ → AllSound w₁
 reached-sound o mem {w = w} s r = run-sound (opened-fit o mem w s) (opening-sound o mem w s) r
 
 -- ---- where a payload goes
@@ -371,7 +381,7 @@ module _ (p : Part) (n : ℕ) where
   pick-lands false x y f g = g
 
   after-lands : (c : Control) (v : Verdict) → Lands p v n → Lands p (after c v) n
-  after-lands Good v l = l
+  after-lands Valid v l = l
   after-lands (ControlRefused r) v l = tt
 
   write-lands :
@@ -428,32 +438,32 @@ module _ (p : Part) (n : ℕ) where
   -- a segment that queue 0 takes: a buffer waits, and the payload ends within it
   untagged-fits :
       (s : Stream) (msn mo start end : ℕ) → untaggedOf (queuesOf s) 0 msn mo n ≡ UntaggedAt start end →
-      (0 < s .buffers .count) × (start + n ≤ getD (s .buffers .entries) 0 noBuffer .len)
+      (0 < s .sends .buffers .count) × (start + n ≤ getD (s .sends .buffers .entries) 0 noBuffer .len)
   unfolding untaggedOf untaggedIn queuesOf
   untagged-fits s msn mo start end e =
-      go (eqb msn (s .«send_msn»)) (ltb 0 (s .buffers .count)) refl (eqb mo (s .taken)) (leb (mo + n) (getD (s .buffers .entries) 0 noBuffer .len)) refl e
+      go (eqb msn (s .sends .msn)) (ltb 0 (s .sends .buffers .count)) refl (eqb mo (s .sends .taken)) (leb (mo + n) (getD (s .sends .buffers .entries) 0 noBuffer .len)) refl e
     where
       go :
-          (a b : Bool) → ltb 0 (s .buffers .count) ≡ b →
-          (c t : Bool) → leb (mo + n) (getD (s .buffers .entries) 0 noBuffer .len) ≡ t →
+          (a b : Bool) → ltb 0 (s .sends .buffers .count) ≡ b →
+          (c t : Bool) → leb (mo + n) (getD (s .sends .buffers .entries) 0 noBuffer .len) ≡ t →
           pick a (pick b (pick c (pick t (UntaggedAt mo (mo + n)) (UntaggedRefused messageTooLong)) (UntaggedRefused invalidMo)) (UntaggedRefused noBufferWaits)) (UntaggedRefused invalidMsn) ≡ UntaggedAt start end →
-          (0 < s .buffers .count) × (start + n ≤ getD (s .buffers .entries) 0 noBuffer .len)
+          (0 < s .sends .buffers .count) × (start + n ≤ getD (s .sends .buffers .entries) 0 noBuffer .len)
       go false b f c t g e = absurd (let no : _≡_ {A = ℕ} 0 1 = cc in omega arith)
       go true false f c t g e = absurd (let no : _≡_ {A = ℕ} 0 1 = cc in omega arith)
       go true true f false t g e = absurd (let no : _≡_ {A = ℕ} 0 1 = cc in omega arith)
       go true true f true false g e = absurd (let no : _≡_ {A = ℕ} 0 1 = cc in omega arith)
       go true true f true true g e =
           let same : mo ≡ start = cc in
-          (ltb-true 0 (s .buffers .count) f, omega (arith, leb-true (mo + n) (getD (s .buffers .entries) 0 noBuffer .len) g))
+          (ltb-true 0 (s .sends .buffers .count) f, omega (arith, leb-true (mo + n) (getD (s .sends .buffers .entries) 0 noBuffer .len) g))
 
-  module _ (ws : List Window) (number : ℕ) (s : Stream) (k : BuffersIn p (s .buffers)) (h : UntaggedHeader) (payload : List ℕ) where
+  module _ (ws : List Window) (number : ℕ) (s : Stream) (k : BuffersIn p (s .sends .buffers)) (h : UntaggedHeader) (payload : List ℕ) where
     message-lands :
         (start end : ℕ) → untaggedOf (queuesOf s) (h .qn) (h .msn) (h .mo) n ≡ UntaggedAt start end →
-        Lands p (messageVerdict ws number s h start end payload) n
+        Lands p (messageVerdict ws number (s .sends) h start end payload) n
     unfolding messageVerdict
     message-lands start end e = go (eqb (h .qn) 0) refl
       where
-        first : eqb (h .qn) 0 ≡ true → Lies p (getD (s .buffers .entries) 0 noBuffer .start + start) n
+        first : eqb (h .qn) 0 ≡ true → Lies p (getD (s .sends .buffers .entries) 0 noBuffer .start + start) n
         first q =
             let z = untagged-fits s (h .msn) (h .mo) start end (subst (λ (m : ℕ). untaggedOf (queuesOf s) m (h .msn) (h .mo) n ≡ UntaggedAt start end) (eqb-true (h .qn) 0 q) e) in
             let b = k 0 (z .0) in
@@ -462,31 +472,31 @@ module _ (p : Part) (n : ℕ) where
         go :
             (t : Bool) → eqb (h .qn) 0 ≡ t →
             Lands p
-            (pick t (sendVerdict ws number (getD (s .buffers .entries) 0 noBuffer) h start end)
+            (pick t (sendVerdict ws number (getD (s .sends .buffers .entries) 0 noBuffer) h start end)
             (pick (eqb (h .qn) 1) (readVerdict ws number (h .last) payload) (terminateVerdict (h .last) payload)))
             n
-        go true q = send-lands ws number (getD (s .buffers .entries) 0 noBuffer) h start end (first q)
+        go true q = send-lands ws number (getD (s .sends .buffers .entries) 0 noBuffer) h start end (first q)
         go false q =
             pick-lands (eqb (h .qn) 1) (readVerdict ws number (h .last) payload) (terminateVerdict (h .last) payload)
             (read-lands ws number (h .last) payload) (terminate-lands (h .last) payload)
 
-    untagged-lands : (u : Untagged) → untaggedOf (queuesOf s) (h .qn) (h .msn) (h .mo) n ≡ u → Lands p (untaggedVerdict ws number s h payload u) n
+    untagged-lands : (u : Untagged) → untaggedOf (queuesOf s) (h .qn) (h .msn) (h .mo) n ≡ u → Lands p (untaggedVerdict ws number (s .sends) h payload u) n
     untagged-lands (UntaggedRefused r) e = tt
     untagged-lands (UntaggedAt start end) e =
-        after-lands (controlled (h .control) (fitsQueue (h .qn) (s .opcode) (opcodeOf (h .control)))) (messageVerdict ws number s h start end payload)
+        after-lands (controlled (h .control) (fitsQueue (h .qn) (s .sends .opcode) (opcodeOf (h .control)))) (messageVerdict ws number (s .sends) h start end payload)
         (message-lands start end e)
 
 -- in a sound domain a segment that was read is judged to go into the part, or nowhere
 module _ (d : Domain) (k : Sound d) (number slot : ℕ) (h : slot < 4) (input : List ℕ) where
   pub judged-lands :
-      (s : SegmentRead) → s ≡ segmentRead (streamAt d slot .crc) input →
+      (s : SegmentRead) → s ≡ segmentRead (streamAt d slot .framing .crc) input →
       Lands (d .part) (partsVerdict (d .windows) number (streamAt d slot) input s) (length (payloadOf input s))
   judged-lands (Wait n) e = tt
   judged-lands (SegmentRefused r) e = tt
   judged-lands (TaggedSegment total t start len) e =
       let w = windowAt (d .windows) (slotNamed (t .stag)) in
       subst (Lands (d .part) (taggedVerdict w number t len))
-      (sym (length-part input start len (inside (streamAt d slot .crc) input (TaggedSegment total t start len) e)))
+      (sym (length-part input start len (inside (streamAt d slot .framing .crc) input (TaggedSegment total t start len) e)))
       (write-lands (d .part) len w number (t .stag) (t .to) (t .control) (k .windowed (slotNamed (t .stag))) (taggedOf w number (t .stag) (t .to) len) refl)
   judged-lands (UntaggedSegment total t start len) e =
       untagged-lands (d .part) (length (part input start len)) (d .windows) number (streamAt d slot) (k .waiting slot h .inside) t (part input start len)
@@ -494,7 +504,7 @@ module _ (d : Domain) (k : Sound d) (number slot : ℕ) (h : slot < 4) (input : 
 
   module _ (bytes : List ℕ) (long : length bytes ≡ d .part .end - d .part .start) where
     segment-whole :
-        (s : SegmentRead) → s ≡ segmentRead (streamAt d slot .crc) input →
+        (s : SegmentRead) → s ≡ segmentRead (streamAt d slot .framing .crc) input →
         partsPlaced (d .part) (d .windows) number (streamAt d slot) input bytes s ≡ ruled (d .part .start) (partsVerdict (d .windows) number (streamAt d slot) input s) (payloadOf input s) bytes
     segment-whole (Wait n) e = refl
     segment-whole (SegmentRefused r) e = refl
@@ -509,12 +519,12 @@ module _ (d : Domain) (k : Sound d) (number slot : ℕ) (h : slot < 4) (input : 
     pub placed-where-judged :
         readiness (streamAt d slot .phase) ≡ Ready →
         domainReceivedBytes d number slot input bytes
-        ≡ ruled (d .part .start) (partsVerdict (d .windows) number (streamAt d slot) input (segmentRead (streamAt d slot .crc) input)) (payloadOf input (segmentRead (streamAt d slot .crc) input)) bytes
+        ≡ ruled (d .part .start) (partsVerdict (d .windows) number (streamAt d slot) input (segmentRead (streamAt d slot .framing .crc) input)) (payloadOf input (segmentRead (streamAt d slot .framing .crc) input)) bytes
     unfolding domainReceivedBytes partsReceivedBytes
     placed-where-judged ready =
         ap (λ (t : Bool). pick t (partsReceivedBytes (d .part) (d .windows) number (streamAt d slot) input bytes) bytes) (le-leb slot 3 (omega arith))
         ∙ ap (λ (r : Readiness). partsBytesWhen (d .part) (d .windows) number (streamAt d slot) input bytes r) ready
-        ∙ segment-whole (segmentRead (streamAt d slot .crc) input) refl
+        ∙ segment-whole (segmentRead (streamAt d slot .framing .crc) input) refl
 
 -- ---- every world that a run from an opening reaches: no domain's part lies out of the store, and a payload that is judged to be
 -- placed lies in the part, so that what becomes of the bytes is the rule with no guard
@@ -522,21 +532,21 @@ pub record Unguarded (w : World) (A : ℕ) : Type 0 where
   pub sound : Sound (domainAt (w .dev) A)
   pub in-store : partFits (domainAt (w .dev) A .part) (length (w .mem)) ≡ true
   pub in-part :
-      (slot : ℕ) → slot < 4 → (input : List ℕ) (s : SegmentRead) → s ≡ segmentRead (streamAt (domainAt (w .dev) A) slot .crc) input →
+      (slot : ℕ) → slot < 4 → (input : List ℕ) (s : SegmentRead) → s ≡ segmentRead (streamAt (domainAt (w .dev) A) slot .framing .crc) input →
       Lands (domainAt (w .dev) A .part) (partsVerdict (domainAt (w .dev) A .windows) A (streamAt (domainAt (w .dev) A) slot) input s) (length (payloadOf input s))
   pub by-rule :
       (slot : ℕ) → slot < 4 → (input : List ℕ) → readiness (streamAt (domainAt (w .dev) A) slot .phase) ≡ Ready →
       domainReceivedBytes (domainAt (w .dev) A) A slot input (bytesOf (domainAt (w .dev) A) (w .mem))
       ≡ ruled (domainAt (w .dev) A .part .start)
-      (partsVerdict (domainAt (w .dev) A .windows) A (streamAt (domainAt (w .dev) A) slot) input (segmentRead (streamAt (domainAt (w .dev) A) slot .crc) input))
-      (payloadOf input (segmentRead (streamAt (domainAt (w .dev) A) slot .crc) input))
+      (partsVerdict (domainAt (w .dev) A .windows) A (streamAt (domainAt (w .dev) A) slot) input (segmentRead (streamAt (domainAt (w .dev) A) slot .framing .crc) input))
+      (payloadOf input (segmentRead (streamAt (domainAt (w .dev) A) slot .framing .crc) input))
       (bytesOf (domainAt (w .dev) A) (w .mem))
 
 pub guards-never-fire :
-    (o : Opening) (mem : List ℕ) {w w₁ : World} {cs : List Call} → Opened o mem w → Run w cs w₁ →
+    (o : Opening) (mem : List ℕ) {I : Interface} {w w₁ : World} {cs : List (I .Request)} → Opened o mem w → Run I w cs w₁ →
     (A : ℕ) → A < 4 → Unguarded w₁ A
-guards-never-fire o mem {w = w} {w₁ = w₁} s r A hA =
-    let f : Fit w₁ = run-fit (opened-fit o mem w s) r in
+guards-never-fire o mem {I = I} {w = w} {w₁ = w₁} s r A hA =
+    let f : Fit w₁ = run-fit I (opened-fit o mem w s) r in
     let k : Sound (domainAt (w₁ .dev) A) = reached-sound o mem s r A hA in
     record {
       sound = k;

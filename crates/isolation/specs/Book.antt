@@ -1,14 +1,14 @@
--- A's book (the paper's word; A is a domain, the paper's branch): what A sees, fed nothing but the opening, the bytes of A's part
--- and A's own calls. What a call does with A's state and bytes is specs/Domain.antt of the crate `domain`.
+-- A's book (the paper's word; A is a domain, the paper's branch): what A observes, fed nothing but the opening, the bytes of A's
+-- part and A's own calls. What a call does with A's state and bytes is specs/Domain.antt of the crate `domain`.
 use Prim.Native.Nat.{ℕ, _/_, _%_, _-_}
-use mathlib.Core.Bool.{Bool, true, false}
+use mathlib.Core.Bool.{Bool}
 use mathlib.Core.List.{List, [], _∷_}
 use lib.ListN.{getD}
 use lib.Dec.{leb, eqb}
 use borrow.Rule.Slice.PartMut.{midOf}
 use Rattle.wire.specs.Wire.{pick, both}
-use Rattle.ddp.specs.Window.{liveCount, lowestFree}
-use Rattle.ddp.specs.declared.part.Outcome.{Outcome}
+use Rattle.memory.specs.Window.{liveCount, lowestFree}
+use Rattle.memory.specs.declared.part.Outcome.{Outcome}
 use Rattle.rdmap.specs.declared.stream.CloseAnswer.{CloseAnswer}
 use Rattle.rdmap.specs.declared.stream.TakeAnswer.{TakeAnswer}
 use Rattle.domain.specs.Domain.{newDomain, domainOpened, domainClosed, domainPosted, domainTaken, domainRegistered, domainDropped, domainReceived, domainReceivedBytes}
@@ -16,6 +16,7 @@ use Rattle.domain.specs.declared.Answer.{Answer as ReceiveAnswer}
 use Rattle.domain.specs.declared.Answer.the-variants.{Refused}
 use Rattle.domain.specs.declared.Domain.{Domain}
 use Rattle.rnic.specs.Rnic.{inOrder}
+use Rattle.rnic.specs.declared.Rnic.{Rnic}
 use Rattle.rnic.specs.declared.Count.{Count}
 use Rattle.rnic.specs.declared.Count.the-variants.{Counted}
 
@@ -38,47 +39,52 @@ pub data Answer : Type 0 where
   taken : TakeAnswer → Answer
   counted : Count → Answer
 
--- whom a call is for; 4 is nobody. "Domain d owns 4d to 4d+3", "Domain d owns 16d to 16d+15"
+-- ---- whom a call is for, made on a device b; 4 is nobody. So far no call's owner turns on the device
+
+-- "Domain d owns 4d to 4d+3"; "a number out of range is for none"
 abbrev pub ofStream : ℕ → ℕ
 ofStream n = pick (leb n 15) (n / 4) 4
 
+-- "Domain d owns 16d to 16d+15"
 abbrev pub ofWindow : ℕ → ℕ
 ofWindow w = pick (leb w 63) (w / 16) 4
 
 abbrev pub ofDomain : ℕ → ℕ
 ofDomain d = pick (leb d 3) d 4
 
-abbrev pub owner : Call → ℕ
-owner (openStream n crc) = ofStream n
-owner (closeStream n) = ofStream n
-owner (register w key base len place rights) = ofWindow w
-owner (dropWindow w) = ofWindow w
-owner (post n start len) = ofStream n
-owner (receive n input k) = ofStream n
-owner (takeRead n) = ofStream n
-owner (live d) = ofDomain d
-owner (free d) = ofDomain d
+abbrev pub ownerIn : Rnic → Call → ℕ
+ownerIn b (openStream n crc) = ofStream n
+ownerIn b (closeStream n) = ofStream n
+ownerIn b (register w key base len place rights) = ofWindow w
+ownerIn b (dropWindow w) = ofWindow w
+ownerIn b (post n start len) = ofStream n
+ownerIn b (receive n input k) = ofStream n
+ownerIn b (takeRead n) = ofStream n
+ownerIn b (live d) = ofDomain d
+ownerIn b (free d) = ofDomain d
 
--- ---- what domain A has: the store's length, its entry and its bytes
+-- ---- what A has and observes
+
+-- A's view: the store's length, A's entry and A's bytes
 pub record View : Type 0 where
   pub size : ℕ
   pub dom : Domain
   pub bytes : List ℕ
 
--- what A sees of a call of its own: the answer, and what it has afterwards
-pub record Seen : Type 0 where
-  pub answer : Answer
+-- what A observes of a call of its own: the answer, in the form R in which it is given, and A's view afterwards
+pub record Observation (R : Type 0) : Type 0 where
+  pub answer : R
   pub after : View
 
 -- ---- A's book: fed A's number, A's view and A's call alone
 
 -- a step that changes the entry, and no byte
-abbrev pub entered : View → Answer → Domain → Seen
+abbrev pub entered : View → Answer → Domain → Observation Answer
 entered v a d = record { answer = a; after = record { size = v .size; dom = d; bytes = v .bytes } }
 
--- a receive that was lent the store
-abbrev pub heard : ℕ → View → ℕ → List ℕ → Seen
-heard A v n input = record {
+-- a receive that is lent the store
+abbrev pub bookReceive : ℕ → View → ℕ → List ℕ → Observation Answer
+bookReceive A v n input = record {
   answer = received (domainReceived (v .dom) A (n % 4) input .answer);
   after = record {
     size = v .size;
@@ -87,7 +93,7 @@ heard A v n input = record {
   };
 }
 
-abbrev pub book : ℕ → View → Call → Seen
+abbrev pub book : ℕ → View → Call → Observation Answer
 book A v (openStream n crc) = entered v (done (domainOpened (v .dom) (n % 4) crc .outcome)) (domainOpened (v .dom) (n % 4) crc .domain)
 book A v (closeStream n) = entered v (closed (domainClosed (v .dom) (n % 4) .answer)) (domainClosed (v .dom) (n % 4) .domain)
 book A v (register w key base len place rights) =
@@ -95,19 +101,20 @@ book A v (register w key base len place rights) =
 book A v (dropWindow w) = entered v (done (domainDropped (v .dom) (w % 16) .outcome)) (domainDropped (v .dom) (w % 16) .domain)
 book A v (post n start len) =
     entered v (done (domainPosted (v .dom) (n % 4) start len .outcome)) (domainPosted (v .dom) (n % 4) start len .domain)
-book A v (receive n input k) = pick (eqb k (v .size)) (heard A v n input) (record { answer = received (Refused 2); after = v })
+book A v (receive n input k) = pick (eqb k (v .size)) (bookReceive A v n input) (record { answer = received (Refused 2); after = v })
 book A v (takeRead n) = entered v (taken (domainTaken (v .dom) (n % 4) .answer)) (domainTaken (v .dom) (n % 4) .domain)
 book A v (live d) = record { answer = counted (Counted (liveCount (v .dom .windows))); after = v }
 book A v (free d) = record { answer = counted (Counted (lowestFree (v .dom .windows))); after = v }
 
-unfoldable pub booked : ℕ → View → List Call → List Seen
-booked A v [] = []
-booked A v (c ∷ cs) = book A v c ∷ booked A (book A v c .after) cs
+-- A's observations of a list of its calls, one after the other; f is the form in which answers are given
+unfoldable pub bookTrace : {R : Type 0} → (Answer → R) → ℕ → View → List Call → List (Observation R)
+bookTrace f A v [] = []
+bookTrace f A v (c ∷ cs) = record { answer = f (book A v c .answer); after = book A v c .after } ∷ bookTrace f A (book A v c .after) cs
 
--- the calls of a list that are for A
-unfoldable pub mine : ℕ → List Call → List Call
-mine A [] = []
-mine A (c ∷ cs) = pick (eqb (owner c) A) (c ∷ mine A cs) (mine A cs)
+-- A's view after a list of its calls
+unfoldable pub bookView : ℕ → View → List Call → View
+bookView A v [] = v
+bookView A v (c ∷ cs) = bookView A (book A v c .after) cs
 
 -- ---- the opening: its numbers
 pub record Opening : Type 0 where
@@ -121,20 +128,25 @@ pub record Opening : Type 0 where
   pub s₃ : ℕ
   pub e₃ : ℕ
 
--- the book of an opening: whether it is one to accept, A's part, and A's first state with the bytes of that part
+-- ---- the book of an opening
+
+-- whether it is accepted
 abbrev pub opens : Opening → Bool
 opens o =
     both (both (leb 1 (o .len)) (leb (o .len) 16777216))
     (inOrder 0 (o .s₀ ∷ o .e₀ ∷ o .s₁ ∷ o .e₁ ∷ o .s₂ ∷ o .e₂ ∷ o .s₃ ∷ o .e₃ ∷ []) (o .len))
 
-abbrev pub startOf : ℕ → Opening → ℕ
-startOf A o = pick (opens o) (getD (o .s₀ ∷ o .s₁ ∷ o .s₂ ∷ o .s₃ ∷ []) A 0) 0
+-- A's part, which is empty where the opening is refused
+abbrev pub partStart : ℕ → Opening → ℕ
+partStart A o = pick (opens o) (getD (o .s₀ ∷ o .s₁ ∷ o .s₂ ∷ o .s₃ ∷ []) A 0) 0
 
-abbrev pub endOf : ℕ → Opening → ℕ
-endOf A o = pick (opens o) (getD (o .e₀ ∷ o .e₁ ∷ o .e₂ ∷ o .e₃ ∷ []) A 0) 0
+abbrev pub partEnd : ℕ → Opening → ℕ
+partEnd A o = pick (opens o) (getD (o .e₀ ∷ o .e₁ ∷ o .e₂ ∷ o .e₃ ∷ []) A 0) 0
 
+-- the bytes of A's part in the caller's store
 abbrev pub firstBytes : ℕ → Opening → List ℕ → List ℕ
-firstBytes A o mem = midOf (startOf A o) (endOf A o - startOf A o) mem
+firstBytes A o mem = midOf (partStart A o) (partEnd A o - partStart A o) mem
 
+-- A's first view, of those bytes
 abbrev pub firstView : ℕ → Opening → List ℕ → View
-firstView A o bytes = record { size = pick (opens o) (o .len) 0; dom = newDomain (startOf A o) (endOf A o); bytes = bytes }
+firstView A o bytes = record { size = pick (opens o) (o .len) 0; dom = newDomain (partStart A o) (partEnd A o); bytes = bytes }

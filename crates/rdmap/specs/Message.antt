@@ -5,11 +5,10 @@ use mathlib.Core.List.{List, [], _∷_}
 use lib.ListN.{length, getD}
 use lib.Dec.{leb, ltb, eqb}
 use Rattle.wire.specs.Wire.{pick, both, part}
-use Rattle.ddp.specs.Buffer.{noBuffer}
-use Rattle.ddp.specs.Window.{windowAt, found, spanned}
+use Rattle.memory.specs.Window.{windowAt, found, spanned}
 use Rattle.ddp.specs.Tagged.{taggedOf}
 use Rattle.ddp.specs.Untagged.{untaggedOf}
-use Rattle.ddp.specs.declared.buffer.Buffer.{Buffer}
+use Rattle.memory.specs.declared.buffer.Buffer.{Buffer}
 use Rattle.ddp.specs.declared.header.TaggedHeader.{TaggedHeader}
 use Rattle.ddp.specs.declared.header.UntaggedHeader.{UntaggedHeader}
 use Rattle.ddp.specs.declared.refusal.Refusal.{Refusal}
@@ -18,20 +17,23 @@ use Rattle.ddp.specs.declared.tagged.Tagged.the-variants.{Nowhere, At as Tagged
 use Rattle.ddp.specs.declared.untagged.Queue.{Queue}
 use Rattle.ddp.specs.declared.untagged.Untagged.{Untagged}
 use Rattle.ddp.specs.declared.untagged.Untagged.the-variants.{At as UntaggedAt, Refused as UntaggedRefused}
-use Rattle.ddp.specs.declared.window.Window.{Window}
-use Rattle.ddp.specs.declared.window.Found.{Found}
-use Rattle.ddp.specs.declared.window.Found.the-variants.{Slot, Foreign, Missing}
-use Rattle.ddp.specs.declared.window.Span.{Span}
-use Rattle.ddp.specs.declared.window.Span.the-variants.{Inside, Wrap, Outside}
-use Rattle.rdmap.specs.Read.{requestAt}
+use Rattle.memory.specs.declared.window.Window.{Window}
+use Rattle.memory.specs.declared.window.Found.{Found}
+use Rattle.memory.specs.declared.window.Found.the-variants.{Slot, Foreign, Missing}
+use Rattle.memory.specs.declared.window.Span.{Span}
+use Rattle.memory.specs.declared.window.Span.the-variants.{Inside, Wrap, Outside}
+use Rattle.rdmap.specs.Sends.{currentBuffer, sendQueue}
+use Rattle.rdmap.specs.Read.{requestAt, readQueue}
+use Rattle.rdmap.specs.Terminates.{terminateQueue}
 use Rattle.rdmap.specs.Refusal.{rdmapVersion, unexpectedOpcode, noWriteRight, invalidateForeign, invalidateMissing, malformed, sourceForeign, sourceMissing, sourceWrap, sourceBounds, noReadRight}
 use Rattle.rdmap.specs.declared.message.Control.{Control}
-use Rattle.rdmap.specs.declared.message.Control.the-variants.{Good, Refused as ControlRefused}
+use Rattle.rdmap.specs.declared.message.Control.the-variants.{Valid, Refused as ControlRefused}
 use Rattle.rdmap.specs.declared.message.Invalidate.{Invalidate}
 use Rattle.rdmap.specs.declared.message.Invalidate.the-variants.{NoStag, Stag}
 use Rattle.rdmap.specs.declared.message.Verdict.{Verdict}
 use Rattle.rdmap.specs.declared.message.Verdict.the-variants.{Refused, Nothing, Write, SendMore, SendLast, Read, Terminate}
 use Rattle.rdmap.specs.declared.read.ReadRequest.{ReadRequest}
+use Rattle.rdmap.specs.declared.sends.Sends.{Sends}
 use Rattle.rdmap.specs.declared.stream.Stream.{Stream}
 
 -- "RDMAP control: version in the top two bits, which is 1; opcode in the low four"
@@ -41,11 +43,11 @@ opcodeOf control = control % 16
 -- 33 RDMAP version; 34 the opcode doesn't fit
 abbrev pub controlled : ℕ → Bool → Control
 controlled control fits =
-    pick (eqb (control / 64) 1) (pick fits Good (ControlRefused unexpectedOpcode)) (ControlRefused rdmapVersion)
+    pick (eqb (control / 64) 1) (pick fits Valid (ControlRefused unexpectedOpcode)) (ControlRefused rdmapVersion)
 
--- what is judged further where the control byte is good
+-- what is judged further where the control byte is valid
 abbrev pub after : Control → Verdict → Verdict
-after Good v = v
+after Valid v = v
 after (ControlRefused r) v = Refused r
 
 -- ---- tagged segments
@@ -121,21 +123,17 @@ terminateVerdict last payload =
     (Refused malformed)
 
 -- by the queue
-unfoldable pub messageVerdict : List Window → ℕ → Stream → UntaggedHeader → ℕ → ℕ → List ℕ → Verdict
-messageVerdict windows domain s h start end payload =
-    pick (eqb (h .qn) 0) (sendVerdict windows domain (getD (s .buffers .entries) 0 noBuffer) h start end)
+unfoldable pub messageVerdict : List Window → ℕ → Sends → UntaggedHeader → ℕ → ℕ → List ℕ → Verdict
+messageVerdict windows domain sends h start end payload =
+    pick (eqb (h .qn) 0) (sendVerdict windows domain (currentBuffer sends) h start end)
     (pick (eqb (h .qn) 1) (readVerdict windows domain (h .last) payload) (terminateVerdict (h .last) payload))
 
--- what each queue of a stream expects: queue 0 the buffer that is filled, queue 1 a Read Request of 28 bytes where fewer than 8 wait, queue 2 a Terminate of at most 52
+-- what each queue of a stream expects
 unfoldable pub queuesOf : Stream → List Queue
-queuesOf s =
-    record { msn = s .«send_msn»; room = ltb 0 (s .buffers .count); limit = getD (s .buffers .entries) 0 noBuffer .len; taken = s .taken }
-    ∷ record { msn = s .«read_msn»; room = ltb (s .reads .count) 8; limit = 28; taken = 0 }
-    ∷ record { msn = s .«terminate_msn»; room = true; limit = 52; taken = 0 }
-    ∷ []
+queuesOf s = sendQueue (s .sends) ∷ readQueue (s .reads) ∷ terminateQueue (s .terminates) ∷ []
 
-abbrev pub untaggedVerdict : List Window → ℕ → Stream → UntaggedHeader → List ℕ → Untagged → Verdict
-untaggedVerdict windows domain s h payload (UntaggedRefused r) = Refused r
-untaggedVerdict windows domain s h payload (UntaggedAt start end) =
-    after (controlled (h .control) (fitsQueue (h .qn) (s .opcode) (opcodeOf (h .control))))
-    (messageVerdict windows domain s h start end payload)
+abbrev pub untaggedVerdict : List Window → ℕ → Sends → UntaggedHeader → List ℕ → Untagged → Verdict
+untaggedVerdict windows domain sends h payload (UntaggedRefused r) = Refused r
+untaggedVerdict windows domain sends h payload (UntaggedAt start end) =
+    after (controlled (h .control) (fitsQueue (h .qn) (sends .opcode) (opcodeOf (h .control))))
+    (messageVerdict windows domain sends h start end payload)

@@ -23,10 +23,9 @@ ghost use Rattle.rdmap.specs.Message.{
 };
 ghost use Rattle.rdmap.specs.Refusal.{noWriteRight};
 ghost use Rattle.ddp.specs.Untagged.{untaggedOf};
-ghost use Rattle.ddp.specs.Buffer.{noBuffer};
-ghost use Rattle.ddp.specs.Window.{windowAt};
+ghost use Rattle.memory.specs.Window.{windowAt};
 ghost use Rattle.wire.specs.Wire.{pick, both};
-ghost use lib.ListN.{length, getD};
+ghost use lib.ListN.{length};
 use crate::read::ReadRequest;
 use crate::read::request_of;
 use crate::refusal::INVALIDATE_FOREIGN;
@@ -40,21 +39,22 @@ use crate::refusal::SOURCE_FOREIGN;
 use crate::refusal::SOURCE_MISSING;
 use crate::refusal::SOURCE_WRAP;
 use crate::refusal::UNEXPECTED_OPCODE;
+use crate::sends::Sends;
 use crate::stream::Stream;
-use ddp::buffer::Buffer;
 use ddp::header::TaggedHeader;
 use ddp::header::UntaggedHeader;
 use ddp::refusal::Refusal;
 use ddp::tagged::Tagged;
 use ddp::untagged::Queue;
 use ddp::untagged::Untagged;
-use ddp::window::Found;
-use ddp::window::Span;
-use ddp::window::Window;
+use memory::buffer::Buffer;
+use memory::window::Found;
+use memory::window::Span;
+use memory::window::Window;
 
-// Whether the control byte is good.
+// Whether the control byte is valid.
 pub enum Control {
-    Good,
+    Valid,
     Refused(Refusal),
 }
 
@@ -97,7 +97,7 @@ fn judge_control(control: u8, fits: bool) -> Control
 {
     if control / 64 == 1 {
         if fits {
-            Control::Good
+            Control::Valid
         } else {
             Control::Refused(UNEXPECTED_OPCODE)
         }
@@ -138,11 +138,11 @@ fn judge_right(w: Window, place: u64) -> Verdict
 fn judge_write(w: Window, control: u8, tagged: Tagged) -> Verdict
     ensures { λ r. ⌜ r ≡ writeVerdict w control tagged ⌝ }
 {
-    let good = judge_control(control, control % 16 == 0);
+    let checked = judge_control(control, control % 16 == 0);
     match tagged {
         Tagged::Refused(refusal) => Verdict::Refused(refusal),
-        Tagged::Nowhere => unless_refused(good, Verdict::Nothing),
-        Tagged::At(place) => unless_refused(good, judge_right(w, place)),
+        Tagged::Nowhere => unless_refused(checked, Verdict::Nothing),
+        Tagged::At(place) => unless_refused(checked, judge_right(w, place)),
     }
 }
 
@@ -151,7 +151,7 @@ fn unless_refused(control: Control, further: Verdict) -> Verdict
     ensures { λ r. ⌜ r ≡ after control further ⌝ }
 {
     match control {
-        Control::Good => further,
+        Control::Valid => further,
         Control::Refused(refusal) => Verdict::Refused(refusal),
     }
 }
@@ -210,7 +210,7 @@ fn judge_send(
     if h.last {
         if takes_stag(opcode) {
             return judge_invalidate(
-                ddp::window::find(windows, domain, h.stag),
+                memory::window::find(windows, domain, h.stag),
                 b,
                 opcode,
                 start,
@@ -276,7 +276,7 @@ fn judge_source(windows: [Window; 16], read: ReadRequest, found: Found) -> Verdi
         Found::Missing => Verdict::Refused(SOURCE_MISSING),
         Found::Slot(slot) => {
             let w = window_of(windows, slot);
-            let span = ddp::window::span_of(w, read.source_to, read.size as u64);
+            let span = memory::window::span_of(w, read.source_to, read.size as u64);
             judge_source_in(w, read, span)
         }
     }
@@ -289,7 +289,7 @@ fn judge_read(windows: [Window; 16], domain: u64, last: bool, payload: &[u8]) ->
     if last {
         if payload.len() == 28 {
             let read = request_of(payload);
-            let found = ddp::window::find(windows, domain, read.source_stag);
+            let found = memory::window::find(windows, domain, read.source_stag);
             return judge_source(windows, read, found);
         }
         return Verdict::Refused(MALFORMED);
@@ -315,29 +315,20 @@ fn judge_terminate(last: bool, payload: &[u8]) -> Verdict
     Verdict::Refused(MALFORMED)
 }
 
-// The buffer that a stream's Sends go to; zeros where none waits.
-fn buffer_of(s: Stream) -> Buffer
-    ensures { λ r. ⌜ r ≡ getD (s .buffers .entries) 0 noBuffer ⌝ }
-{
-    let buffers = s.buffers;
-    let entries = buffers.entries;
-    entries[0]
-}
-
 // Judges an untagged segment by its queue.
 fn judge_message(
     windows: [Window; 16],
     domain: u64,
-    s: Stream,
+    sends: Sends,
     h: UntaggedHeader,
     start: u32,
     end: u32,
     payload: &[u8],
 ) -> Verdict
-    ensures { λ r. ⌜ r ≡ messageVerdict windows domain s h start end (now (payload .entry)) ⌝ }
+    ensures { λ r. ⌜ r ≡ messageVerdict windows domain sends h start end (now (payload .entry)) ⌝ }
 {
     if h.qn == 0 {
-        let b = buffer_of(s);
+        let b = sends.current();
         return judge_send(windows, domain, b, h, start, end);
     }
     if h.qn == 1 {
@@ -350,28 +341,10 @@ fn judge_message(
 fn queues_of(s: Stream) -> [Queue; 3]
     ensures { λ r. ⌜ r ≡ queuesOf s ⌝ }
 {
-    let b = buffer_of(s);
-    let buffers = s.buffers;
+    let sends = s.sends;
     let reads = s.reads;
-    let sends = Queue {
-        msn: s.send_msn,
-        room: 0 < buffers.count,
-        limit: b.len,
-        taken: s.taken,
-    };
-    let requests = Queue {
-        msn: s.read_msn,
-        room: reads.count < 8,
-        limit: 28,
-        taken: 0,
-    };
-    let terminates = Queue {
-        msn: s.terminate_msn,
-        room: true,
-        limit: 52,
-        taken: 0,
-    };
-    [sends, requests, terminates]
+    let terminates = s.terminates;
+    [sends.queue(), reads.queue(), terminates.queue()]
 }
 
 // Judges an untagged segment with its payload.
@@ -382,15 +355,16 @@ pub fn judge_untagged_segment(
     h: UntaggedHeader,
     payload: &[u8],
 ) -> Verdict
-    ensures { λ r. ⌜ r ≡ untaggedVerdict windows domain s h (now (payload .entry)) (untaggedOf (queuesOf s) (h .qn) (h .msn) (h .mo) (length (now (payload .entry)))) ⌝ }
+    ensures { λ r. ⌜ r ≡ untaggedVerdict windows domain (s .sends) h (now (payload .entry)) (untaggedOf (queuesOf s) (h .qn) (h .msn) (h .mo) (length (now (payload .entry)))) ⌝ }
 {
     let queues = queues_of(s);
     match ddp::untagged::judge_untagged(queues, h.qn, h.msn, h.mo, payload.len() as u64) {
         Untagged::Refused(refusal) => Verdict::Refused(refusal),
         Untagged::At { start, end } => {
-            let good = judge_control(h.control, fits_queue(h.qn, s.opcode, h.control % 16));
-            let further = judge_message(windows, domain, s, h, start, end, payload);
-            unless_refused(good, further)
+            let sends = s.sends;
+            let checked = judge_control(h.control, fits_queue(h.qn, sends.opcode, h.control % 16));
+            let further = judge_message(windows, domain, sends, h, start, end, payload);
+            unless_refused(checked, further)
         }
     }
 }

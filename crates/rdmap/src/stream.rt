@@ -1,10 +1,13 @@
-// A stream's record: handed in by value, and the changed record handed back. A closed stream is all
-// zeros, and the entries past a count are zeros, so that equal meaning is equal value.
+// A stream's record: handed in by value, and the changed record handed back. It is in groups, each of
+// which has its own module; a method here changes one group and names the others whole. A closed
+// stream is all zeros, and the entries past a count are zeros, so that equal meaning is equal value.
 ghost use mathlib.Core.Path.{_≡_};
 ghost use Rattle.rdmap.specs.Stream.{
-  isClosed,
   closedStream,
-  readiness,
+  openedStream,
+  inPhase,
+  withSends,
+  withReads,
   opened,
   closed,
   postedOn,
@@ -14,67 +17,33 @@ ghost use Rattle.rdmap.specs.Stream.{
   sendingOn,
   sentOn,
   queuedOn,
-  inPhase,
 };
+use crate::framing::Framing;
+use crate::framing::new_framing;
+use crate::framing::no_framing;
+use crate::phase::Phase;
+use crate::phase::Readiness;
+use crate::phase::ended_by;
+use crate::phase::phase_of;
 use crate::read::ReadRequest;
 use crate::read::Reads;
-use ddp::buffer::Buffer;
-use ddp::buffer::Buffers;
-use ddp::part::Outcome;
-use ddp::part::Part;
+use crate::read::empty_reads;
+use crate::sends::Sends;
+use crate::sends::empty_sends;
+use crate::terminates::Terminates;
+use crate::terminates::empty_terminates;
 use ddp::refusal::Refusal;
-use ddp::untagged::next_msn;
+use memory::part::Outcome;
+use memory::part::Part;
 
-// Where a stream stands: 0 closed; 1 open; 2 ended by a refusal of the peer's bytes, which stands
-// beside it; 3 ended by the peer's Terminate. One that is ended is still open until it is closed. The
-// refusal is zeros but in 2. Numbers and no enum, since a device that a C program holds may have none.
-#[repr(C)]
-pub struct Phase {
-    pub state: u8,
-    pub refusal: Refusal,
-}
-
-const NO_REFUSAL: Refusal = Refusal {
-    number: 0,
-    layer: 0,
-    etype: 0,
-    code: 0,
-};
-
-const CLOSED: Phase = Phase {
-    state: 0,
-    refusal: NO_REFUSAL,
-};
-
-const OPEN: Phase = Phase {
-    state: 1,
-    refusal: NO_REFUSAL,
-};
-
-const TERMINATED: Phase = Phase {
-    state: 3,
-    refusal: NO_REFUSAL,
-};
-
-// The next MSN of each queue, the opcode of a Send under way (0: none) and how many of its bytes
-// are taken, the buffers that wait and the peer's reads that wait.
+// Where it stands, how its bytes are read as frames, and what its three queues keep.
 #[repr(C)]
 pub struct Stream {
     pub phase: Phase,
-    pub crc: bool,
-    pub send_msn: u32,
-    pub read_msn: u32,
-    pub terminate_msn: u32,
-    pub opcode: u8,
-    pub taken: u32,
-    pub buffers: Buffers,
+    pub framing: Framing,
+    pub sends: Sends,
     pub reads: Reads,
-}
-
-// Whether a stream can be worked on, or the refusal's number.
-pub enum Readiness {
-    Ready,
-    NotReady(u8),
+    pub terminates: Terminates,
 }
 
 // What opening or posting answers, and the stream after it.
@@ -105,75 +74,58 @@ pub struct StreamTaken {
     pub stream: Stream,
 }
 
-// Whether a phase is that of a closed stream.
-fn is_closed(phase: Phase) -> bool
-    ensures { λ r. ⌜ r ≡ isClosed phase ⌝ }
-{
-    phase.state == 0
-}
-
 // A closed stream.
 pub fn closed_stream() -> Stream
     ensures { λ r. ⌜ r ≡ closedStream ⌝ }
 {
-    let buffer = Buffer { start: 0, len: 0 };
-    let read = ReadRequest {
-        sink_stag: 0,
-        sink_to: 0,
-        size: 0,
-        source_stag: 0,
-        source_to: 0,
-    };
     Stream {
-        phase: CLOSED,
-        crc: false,
-        send_msn: 0,
-        read_msn: 0,
-        terminate_msn: 0,
-        opcode: 0,
-        taken: 0,
-        buffers: Buffers {
-            count: 0,
-            entries: [buffer; 8],
-        },
-        reads: Reads {
-            count: 0,
-            entries: [read; 8],
-        },
+        phase: phase_of(0),
+        framing: no_framing(),
+        sends: empty_sends(0),
+        reads: empty_reads(0),
+        terminates: empty_terminates(0),
+    }
+}
+
+// A stream that was just opened.
+fn opened_stream(crc: bool) -> Stream
+    ensures { λ r. ⌜ r ≡ openedStream crc ⌝ }
+{
+    Stream {
+        phase: phase_of(1),
+        framing: new_framing(crc),
+        sends: empty_sends(1),
+        reads: empty_reads(1),
+        terminates: empty_terminates(1),
     }
 }
 
 impl Stream {
-    // Whether the stream is open and not ended.
-    pub fn ready(self) -> Readiness
-        ensures { λ r. ⌜ r ≡ readiness (self .phase) ⌝ }
-    {
-        let phase = self.phase;
-        let state = phase.state;
-        match state {
-            0 => Readiness::NotReady(3),
-            1 => Readiness::Ready,
-            _ => Readiness::NotReady(5),
-        }
-    }
-
     // The stream in another phase.
     fn in_phase(self, phase: Phase) -> Stream
         ensures { λ r. ⌜ r ≡ inPhase self phase ⌝ }
     {
-        let buffers = self.buffers;
-        let reads = self.reads;
-        Stream {
-            phase,
-            crc: self.crc,
-            send_msn: self.send_msn,
-            read_msn: self.read_msn,
-            terminate_msn: self.terminate_msn,
-            opcode: self.opcode,
-            taken: self.taken,
-            buffers,
-            reads,
-        }
+        let mut stream = self;
+        stream.phase = phase;
+        stream
+    }
+
+    // The stream with queue 0 exchanged.
+    fn with_sends(self, sends: Sends) -> Stream
+        ensures { λ r. ⌜ r ≡ withSends self sends ⌝ }
+    {
+        let mut stream = self;
+        stream.sends = sends;
+        stream
+    }
+
+    // The stream with queue 1 exchanged.
+    fn with_reads(self, reads: Reads) -> Stream
+        ensures { λ r. ⌜ r ≡ withReads self reads ⌝ }
+    {
+        let mut stream = self;
+        stream.reads = reads;
+        stream
     }
 
     // Opens a closed stream, with the CRC on or off.
@@ -181,15 +133,10 @@ impl Stream {
         ensures { λ r. ⌜ r ≡ opened self crc ⌝ }
     {
         let phase = self.phase;
-        if is_closed(phase) {
-            let mut stream = closed_stream().in_phase(OPEN);
-            stream.crc = crc;
-            stream.send_msn = 1;
-            stream.read_msn = 1;
-            stream.terminate_msn = 1;
+        if phase.is_closed() {
             return StreamDone {
                 outcome: Outcome::Done,
-                stream,
+                stream: opened_stream(crc),
             };
         }
         StreamDone {
@@ -203,13 +150,14 @@ impl Stream {
         ensures { λ r. ⌜ r ≡ closed self ⌝ }
     {
         let phase = self.phase;
-        if is_closed(phase) {
+        if phase.is_closed() {
             return StreamClosed {
                 answer: CloseAnswer::Refused(3),
                 stream: self,
             };
         }
-        let buffers = self.buffers;
+        let sends = self.sends;
+        let buffers = sends.buffers;
         let reads = self.reads;
         StreamClosed {
             answer: CloseAnswer::Closed {
@@ -224,7 +172,8 @@ impl Stream {
     pub fn post(self, part: Part, start: u64, len: u64) -> StreamDone
         ensures { λ r. ⌜ r ≡ postedOn self part start len ⌝ }
     {
-        match self.ready() {
+        let phase = self.phase;
+        match phase.ready() {
             Readiness::Ready => {}
             Readiness::NotReady(number) => {
                 return StreamDone {
@@ -233,20 +182,22 @@ impl Stream {
                 };
             }
         }
-        let buffers = self.buffers;
-        let posted = buffers.post(part, start, len);
+        let sends = self.sends;
+        let posted = sends.post(part, start, len);
         let outcome = posted.outcome;
-        let after = posted.buffers;
-        let mut stream = self;
-        stream.buffers = after;
-        StreamDone { outcome, stream }
+        let after = posted.sends;
+        StreamDone {
+            outcome,
+            stream: self.with_sends(after),
+        }
     }
 
-    // Takes the oldest read that waits.
+    // Takes the read that came first of those that wait.
     pub fn take(self) -> StreamTaken
         ensures { λ r. ⌜ r ≡ takenFrom self ⌝ }
     {
-        match self.ready() {
+        let phase = self.phase;
+        match phase.ready() {
             Readiness::Ready => {}
             Readiness::NotReady(number) => {
                 return StreamTaken {
@@ -262,13 +213,10 @@ impl Stream {
                 stream: self,
             };
         }
-        let entries = reads.entries;
-        let oldest = entries[0];
-        let mut stream = self;
-        stream.reads = reads.popped();
+        let first = reads.first();
         StreamTaken {
-            answer: TakeAnswer::Read(oldest),
-            stream,
+            answer: TakeAnswer::Read(first),
+            stream: self.with_reads(reads.popped()),
         }
     }
 
@@ -276,15 +224,16 @@ impl Stream {
     pub fn end(self, refusal: Refusal) -> Stream
         ensures { λ r. ⌜ r ≡ endedBy self refusal ⌝ }
     {
-        self.in_phase(Phase { state: 2, refusal })
+        self.in_phase(ended_by(refusal))
     }
 
     // Ends the stream by the peer's Terminate.
     pub fn terminated(self) -> Stream
         ensures { λ r. ⌜ r ≡ terminatedBy self ⌝ }
     {
-        let mut stream = self.in_phase(TERMINATED);
-        stream.terminate_msn = next_msn(self.terminate_msn);
+        let terminates = self.terminates;
+        let mut stream = self.in_phase(phase_of(3));
+        stream.terminates = terminates.risen();
         stream
     }
 
@@ -292,23 +241,16 @@ impl Stream {
     pub fn sending(self, opcode: u8, taken: u32) -> Stream
         ensures { λ r. ⌜ r ≡ sendingOn self opcode taken ⌝ }
     {
-        let mut stream = self;
-        stream.opcode = opcode;
-        stream.taken = taken;
-        stream
+        let sends = self.sends;
+        self.with_sends(sends.sending(opcode, taken))
     }
 
-    // A Send is complete: its buffer is gone, and the next one has the next MSN.
+    // A Send is complete.
     pub fn sent(self) -> Stream
         ensures { λ r. ⌜ r ≡ sentOn self ⌝ }
     {
-        let buffers = self.buffers;
-        let mut stream = self;
-        stream.opcode = 0;
-        stream.taken = 0;
-        stream.send_msn = next_msn(self.send_msn);
-        stream.buffers = buffers.popped();
-        stream
+        let sends = self.sends;
+        self.with_sends(sends.sent())
     }
 
     // A Read Request is queued.
@@ -316,9 +258,6 @@ impl Stream {
         ensures { λ r. ⌜ r ≡ queuedOn self read ⌝ }
     {
         let reads = self.reads;
-        let mut stream = self;
-        stream.read_msn = next_msn(self.read_msn);
-        stream.reads = reads.queued(read);
-        stream
+        self.with_reads(reads.queued(read))
     }
 }

@@ -12,6 +12,7 @@ ghost use Prim.Native.Nat.{min};
 ghost use mathlib.Core.List.{_++_};
 ghost use lib.ListN.{length, take, drop};
 ghost use Rattle.calls.specs.Call.{called, calledStore};
+ghost use Rattle.replay.specs.Run.{firstState, lineRequest, stateAfter, storeThen};
 
 // What a run holds besides the store: the device, and the LENGTH of the last `open`, which is how many
 // of the store's bytes a line lends that does not say.
@@ -21,7 +22,9 @@ pub struct State {
 }
 
 // What a run starts with: the device that a refused opening leaves, and no byte lent.
-pub fn first_state() -> State {
+pub fn first_state() -> State
+    ensures { λ r. ⌜ r ≡ firstState ⌝ }
+{
     let done = rnic::open(0, 0, 0, 0, 0, 0, 0, 0, 0);
     let rnic = done.rnic;
     State { kept: 0, rnic }
@@ -60,7 +63,10 @@ pub fn run_line(
     frame: &mut [u8],
     store: &mut [u8],
     text: &mut [u8],
-) -> State {
+) -> State
+    ensures state { λ r. ⌜ r ≡ stateAfter state (lineRequest (state .kept) (length (now (bytes .entry))) (length (now (store .entry))) (now (line .entry)) count) (now (store .entry)) ⌝ }
+    ensures rest { λ r. ⌜ now (store .exit) ≡ storeThen state (lineRequest (state .kept) (length (now (bytes .entry))) (length (now (store .entry))) (now (line .entry)) count) (now (store .entry)) ⌝ }
+{
     if line.len() < count {
         let n = bad(text);
         print(text, n);

@@ -12,10 +12,13 @@ use script::number::Number;
 use script::number::read_number;
 use wire::copy::same;
 ghost use mathlib.Core.Path.{_≡_};
+ghost use lib.ListN.{length};
+ghost use Rattle.command.specs.Args.{wordsAt};
+ghost use Rattle.request.specs.Request.{callBy, askedOf, askNumbers, askStream, lentOf, askReceive, askCall, SaysCall};
 
 // The call of a number.
 fn calling(number: u64, numbers: [u64; 9], size: usize, lent: u64, kept: u64) -> Asked
-    ensures { λ r. ⌜ r .count ≡ 0 ⌝ }
+    ensures { λ r. ⌜ r ≡ callBy number numbers size lent kept ⌝ }
 {
     Asked {
         call: true,
@@ -31,7 +34,7 @@ fn calling(number: u64, numbers: [u64; 9], size: usize, lent: u64, kept: u64) ->
 // A call whose words are numbers alone. LENGTH of `open` is what is lent from now on, also where the
 // opening is refused.
 fn ask_numbers(line: &[u8], words: Words, kept: u64) -> Asked
-    ensures { λ r. ⌜ r .count ≡ 0 ⌝ }
+    ensures { λ r. ⌜ r ≡ askedOf (askNumbers kept (wordsAt (now (line .entry)) words)) 0 ⌝ }
 {
     let shape = shape_of(word(line, words, 0));
     let n = numbers_of(line, words, shape.words);
@@ -47,7 +50,7 @@ fn ask_numbers(line: &[u8], words: Words, kept: u64) -> Asked
 
 // `stream N on|off`: opens a stream.
 fn ask_stream(line: &[u8], words: Words, kept: u64) -> Asked
-    ensures { λ r. ⌜ r .count ≡ 0 ⌝ }
+    ensures { λ r. ⌜ r ≡ askedOf (askStream kept (wordsAt (now (line .entry)) words)) 0 ⌝ }
 {
     if words.count != 3 {
         return answered(0);
@@ -64,7 +67,9 @@ fn ask_stream(line: &[u8], words: Words, kept: u64) -> Asked
 
 // How many bytes of the store a line lends: LENT where it has one, which the store must have, and else
 // the LENGTH of the last `open`.
-fn lent_of(kept: u64, line: &[u8], words: Words, size: usize) -> Number {
+fn lent_of(kept: u64, line: &[u8], words: Words, size: usize) -> Number
+    ensures { λ r. ⌜ r ≡ lentOf kept size (wordsAt (now (line .entry)) words) ⌝ }
+{
     if words.count == 3 {
         return Number::Value(kept);
     }
@@ -82,7 +87,7 @@ fn lent_of(kept: u64, line: &[u8], words: Words, size: usize) -> Number {
 
 // `receive N HEX` or `receive N HEX LENT`, over a store of some size. The bytes are put in the buffer.
 fn ask_receive(line: &[u8], words: Words, kept: u64, bytes: &mut [u8], size: usize) -> Asked
-    ensures { λ r. ⌜ r .count ≡ 0 ⌝ }
+    ensures { λ r. ⌜ SaysCall (askReceive kept (length (now (bytes .entry))) size (wordsAt (now (line .entry)) words)) r (now (bytes .exit)) ⌝ }
 {
     let Number::Value(lent) = lent_of(kept, line, words, size) else {
         return answered(0);
@@ -99,7 +104,7 @@ fn ask_receive(line: &[u8], words: Words, kept: u64, bytes: &mut [u8], size: usi
 
 // The call that a line is, if it is one.
 pub(crate) fn ask_call(line: &[u8], words: Words, kept: u64, bytes: &mut [u8], size: usize) -> Asked
-    ensures { λ r. ⌜ r .count ≡ 0 ⌝ }
+    ensures { λ r. ⌜ SaysCall (askCall kept (length (now (bytes .entry))) size (wordsAt (now (line .entry)) words)) r (now (bytes .exit)) ⌝ }
 {
     let name = word(line, words, 0);
     if same(name, b"receive") {

@@ -10,12 +10,16 @@ use command::args::Words;
 use command::args::numbers_of;
 use command::args::split;
 use command::args::word;
-use command::frames;
+use command::frames::is_frame;
+use command::frames::run;
 use wire::copy::same;
+ghost use mathlib.Core.Bool.{true};
 ghost use mathlib.Core.Path.{_≡_};
 ghost use Prim.Native.Nat.{_≤_};
 ghost use lib.ListN.{length, getD};
 ghost use lib.Dec.{eqb};
+ghost use Rattle.command.specs.Args.{wordsAt};
+ghost use Rattle.request.specs.Request.{answeredBy, askDevice, requestOf, isSilent, Says};
 
 mod call;
 mod shape;
@@ -37,7 +41,7 @@ pub struct Asked {
 
 // A line that is answered by `count` bytes.
 pub(crate) fn answered(count: usize) -> Asked
-    ensures { λ r. ⌜ r .count ≡ count ⌝ }
+    ensures { λ r. ⌜ r ≡ answeredBy count ⌝ }
 {
     Asked {
         call: false,
@@ -69,7 +73,8 @@ fn ask_device(
     store: &mut [u8],
     text: &mut [u8],
 ) -> Asked
-    ensures { λ r. ⌜ r .count ≤ length (now (text .entry)) ⌝ }
+    ensures within { λ r. ⌜ r .count ≤ length (now (text .entry)) ⌝ }
+    ensures asks { λ r. ⌜ Says (askDevice kept (length (now (bytes .entry))) (length (now (store .entry))) (wordsAt (now (line .entry)) words)) r (now (bytes .exit)) (now (store .entry)) (now (store .exit)) ⌝ }
 {
     let name = word(line, words, 0);
     if same(name, b"bytes") {
@@ -85,36 +90,8 @@ fn ask_device(
     answered(bad(text))
 }
 
-// A command on frames, or the line is handed on.
-fn ask_words(
-    line: &[u8],
-    words: Words,
-    kept: u64,
-    bytes: &mut [u8],
-    frame: &mut [u8],
-    store: &mut [u8],
-    text: &mut [u8],
-) -> Asked
-    ensures { λ r. ⌜ r .count ≤ length (now (text .entry)) ⌝ }
-{
-    let name = word(line, words, 0);
-    if same(name, b"fpdu") {
-        return answered(frames::fpdu(line, words, bytes, frame, text));
-    }
-    if same(name, b"unframe") {
-        return answered(frames::unframe(line, words, bytes, text));
-    }
-    if same(name, b"startup") {
-        return answered(frames::startup(line, words, bytes, frame, text));
-    }
-    if same(name, b"unstartup") {
-        return answered(frames::unstartup(line, words, bytes, text));
-    }
-    ask_device(line, words, kept, bytes, store, text)
-}
-
 // What a line asks, where `kept` bytes are lent by one that does not say; a comment, and a line
-// without words, are answered by nothing.
+// without words, are answered by nothing. The text alone is not said.
 pub fn ask(
     line: &[u8],
     kept: u64,
@@ -123,7 +100,9 @@ pub fn ask(
     store: &mut [u8],
     text: &mut [u8],
 ) -> Asked
-    ensures { λ r. ⌜ r .count ≤ length (now (text .entry)) ⌝ }
+    ensures within { λ r. ⌜ r .count ≤ length (now (text .entry)) ⌝ }
+    ensures silent { λ r. ⌜ (isSilent (now (line .entry)) ≡ true → r .count ≡ 0) ⌝ }
+    ensures asks { λ r. ⌜ Says (requestOf kept (length (now (bytes .entry))) (length (now (store .entry))) (now (line .entry))) r (now (bytes .exit)) (now (store .entry)) (now (store .exit)) ⌝ }
 {
     if is_comment(line) {
         return answered(0);
@@ -132,5 +111,8 @@ pub fn ask(
     if words.count == 0 {
         return answered(0);
     }
-    ask_words(line, words, kept, bytes, frame, store, text)
+    if is_frame(word(line, words, 0)) {
+        return answered(run(line, words, bytes, frame, text));
+    }
+    ask_device(line, words, kept, bytes, store, text)
 }

@@ -1,5 +1,7 @@
 // Which call of the device a name stands for, where the words after it are all numbers.
 use wire::copy::same;
+ghost use mathlib.Core.Path.{_≡_};
+ghost use Rattle.request.specs.Request.{shapeOf};
 
 // The number of a call, and how many words its line has; no words where the name is no call's.
 pub struct Shape {
@@ -8,7 +10,9 @@ pub struct Shape {
 }
 
 // The call of a name whose words are numbers alone.
-pub fn shape_of(name: &[u8]) -> Shape {
+pub fn shape_of(name: &[u8]) -> Shape
+    ensures { λ r. ⌜ r ≡ shapeOf (now (name .entry)) ⌝ }
+{
     if same(name, b"open") {
         return Shape {
             number: 0,

@@ -8,8 +8,13 @@ use command::args::hex_into;
 use command::args::word;
 use script::number::Number;
 use script::number::read_number;
-ghost use Prim.Native.Nat.{_≤_};
+ghost use mathlib.Core.Path.{_≡_};
+ghost use Prim.Native.Nat.{_+_, _≤_};
+ghost use lib.Dec.{leb};
 ghost use lib.ListN.{length};
+ghost use Rattle.wire.specs.Wire.{pick, put};
+ghost use Rattle.command.specs.Args.{wordsAt};
+ghost use Rattle.request.specs.Request.{askFill, storeAfter};
 
 // `bytes START LENGTH`: shows that many bytes from START on.
 pub fn bytes(n: Numbers, store: &[u8], text: &mut [u8]) -> usize
@@ -31,20 +36,23 @@ pub fn bytes(n: Numbers, store: &[u8], text: &mut [u8]) -> usize
 
 // Puts bytes into the store from a place on, if they fit.
 fn put_bytes(bytes: &[u8], at: usize, store: &mut [u8], text: &mut [u8]) -> usize
-    ensures { λ r. ⌜ r ≤ length (now (text .entry)) ⌝ }
+    ensures within { λ r. ⌜ r ≤ length (now (text .entry)) ⌝ }
+    ensures filled { λ r. ⌜ now (store .exit) ≡ pick (leb (at + length (now (bytes .entry))) (length (now (store .entry)))) (put (now (store .entry)) at (now (bytes .entry))) (now (store .entry)) ⌝ }
 {
-    if at <= store.len() {
-        if bytes.len() <= store.len() - at {
-            wire::copy::copy(store, at, bytes);
-            return first(b"done", text);
-        }
+    if store.len() < at {
+        return bad(text);
     }
-    bad(text)
+    if store.len() - at < bytes.len() {
+        return bad(text);
+    }
+    wire::copy::copy(store, at, bytes);
+    first(b"done", text)
 }
 
 // `fill START HEX`: puts bytes into the store from START on.
 pub fn fill(line: &[u8], words: Words, bytes: &mut [u8], store: &mut [u8], text: &mut [u8]) -> usize
-    ensures { λ r. ⌜ r ≤ length (now (text .entry)) ⌝ }
+    ensures within { λ r. ⌜ r ≤ length (now (text .entry)) ⌝ }
+    ensures filled { λ r. ⌜ now (store .exit) ≡ storeAfter (askFill (length (now (bytes .entry))) (length (now (store .entry))) (wordsAt (now (line .entry)) words)) (now (store .entry)) ⌝ }
 {
     if words.count != 3 {
         return bad(text);

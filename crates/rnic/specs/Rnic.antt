@@ -6,10 +6,10 @@ use lib.ListN.{length, getD, set}
 use lib.Dec.{leb, eqb}
 use borrow.Rule.Slice.PartMut.{midOf, putMid}
 use Rattle.wire.specs.Wire.{pick, both}
-use Rattle.ddp.specs.Window.{liveCount, lowestFree}
-use Rattle.ddp.specs.declared.part.Part.{Part}
-use Rattle.ddp.specs.declared.part.Outcome.{Outcome}
-use Rattle.ddp.specs.declared.part.Outcome.the-variants.{Done, Refused as NotDone}
+use Rattle.memory.specs.Part.{partFits}
+use Rattle.memory.specs.Window.{liveCount, lowestFree}
+use Rattle.memory.specs.declared.part.Outcome.{Outcome}
+use Rattle.memory.specs.declared.part.Outcome.the-variants.{Done, Refused as NotDone}
 use Rattle.rdmap.specs.declared.stream.CloseAnswer.the-variants.{Refused as NotClosed}
 use Rattle.rdmap.specs.declared.stream.TakeAnswer.the-variants.{Refused as NotTaken}
 use Rattle.domain.specs.Domain.{newDomain, domainOpened, domainClosed, domainPosted, domainTaken, domainRegistered, domainDropped, domainReceived, domainReceivedBytes}
@@ -101,10 +101,6 @@ rnicTaken b n =
       rnic = withDomain b (n / 4) (domainTaken (domainAt b (n / 4)) (n % 4) .domain);
     })
     (record { answer = NotTaken 1; rnic = b })
-
--- a part lies in a store of this length
-abbrev pub partFits : Part → ℕ → Bool
-partFits p size = both (leb (p .start) (p .end)) (leb (p .end) size)
 
 -- the owner's part lies in the store, or 9, which no device that was opened gives
 unfoldable pub receivedOwned : Rnic → ℕ → ℕ → List ℕ → RnicReceived

@@ -28,10 +28,11 @@ ghost use Rattle.rnic.specs.Rnic.{
   rnicFree,
 };
 ghost use mathlib.Core.List.{_∷_, []};
-use ddp::part::Outcome;
 use domain::Answer;
 use domain::Domain;
 use domain::new_domain;
+use memory::part::Outcome;
+use memory::part::fits_in;
 use rdmap::stream::CloseAnswer;
 use rdmap::stream::TakeAnswer;
 
@@ -316,7 +317,7 @@ pub fn live_count(b: Rnic, number: u64) -> Count
     if number <= 3 {
         let dom = b.domains[number as usize];
         let windows = dom.windows;
-        return Count::Counted(ddp::window::live_count(windows));
+        return Count::Counted(memory::window::live_count(windows));
     }
     Count::Refused(1)
 }
@@ -328,7 +329,7 @@ pub fn lowest_free(b: Rnic, number: u64) -> Count
     if number <= 3 {
         let dom = b.domains[number as usize];
         let windows = dom.windows;
-        return Count::Counted(ddp::window::lowest_free(windows));
+        return Count::Counted(memory::window::lowest_free(windows));
     }
     Count::Refused(1)
 }
@@ -343,16 +344,14 @@ fn receive_owned(b: Rnic, store: &mut [u8], stream: u64, bytes: &[u8]) -> RnicRe
     let owner = number as usize;
     let dom = b.domains[owner];
     let part = dom.part;
-    let start = part.start as usize;
-    let end = part.end as usize;
     let all = store.len();
-    if start <= end {
-        if end <= all {
-            let done = domain::receive(dom, number, &mut store[start..end], stream % 4, bytes);
-            let answer = done.answer;
-            let rnic = with_domain(b, owner, done.domain);
-            return RnicReceived { answer, rnic };
-        }
+    if fits_in(part, all) {
+        let start = part.start as usize;
+        let end = part.end as usize;
+        let done = domain::receive(dom, number, &mut store[start..end], stream % 4, bytes);
+        let answer = done.answer;
+        let rnic = with_domain(b, owner, done.domain);
+        return RnicReceived { answer, rnic };
     }
     RnicReceived {
         answer: Answer::Refused(9),

@@ -10,26 +10,27 @@ use lib.Seq.{set-getD}
 use borrow.Author.Tests.{leb-true, le-leb}
 use borrow.Rule.Slice.PartMut.{midOf, putMid}
 use Rattle.wire.specs.Wire.{pick, be32At}
-use Rattle.ddp.specs.Window.{windowAt, slotNamed}
-use Rattle.ddp.specs.declared.part.Part.{Part}
-use Rattle.ddp.specs.declared.window.Window.{Window}
+use Rattle.memory.specs.Window.{windowAt, slotNamed}
+use Rattle.memory.specs.declared.part.Part.{Part}
+use Rattle.memory.specs.declared.window.Window.{Window}
 use Rattle.domain.specs.Domain.{streamAt, noStream, domainReceived, domainReceivedBytes}
 use Rattle.domain.specs.Parts.{partsReceived, partsReceivedBytes, lifted}
-use Rattle.domain.specs.Write.{namedWindow, noWrite, goodWrite as domainWrite, written}
+use Rattle.domain.specs.Write.{namedWindow, noWrite, validWrite, writePlaced}
 use Rattle.rdmap.specs.declared.stream.Stream.{Stream}
 use Rattle.domain.specs.declared.Answer.{Answer}
 use Rattle.domain.specs.declared.Answer.the-variants.{Refused}
 use Rattle.domain.specs.declared.Domain.{Domain}
 use Rattle.domain.specs.declared.Received.{Received}
 use Rattle.domain.specs.declared.parts.PartsReceived.{PartsReceived}
-use Rattle.domain.specs.declared.write.GoodWrite.{GoodWrite}
-use Rattle.domain.proofs.Writes.{good-received}
-use Rattle.rnic.specs.Rnic.{domainAt, noDomain, withDomain, withBytes, bytesOf, partFits, rnicReceived, rnicReceivedStore, receivedOwned, receivedOwnedStore}
+use Rattle.domain.specs.declared.write.ValidWrite.{ValidWrite}
+use Rattle.domain.proofs.Writes.{valid-received}
+use Rattle.memory.specs.Part.{partFits}
+use Rattle.rnic.specs.Rnic.{domainAt, noDomain, withDomain, withBytes, bytesOf, rnicReceived, rnicReceivedStore, receivedOwned, receivedOwnedStore}
 use Rattle.rnic.specs.declared.Rnic.{Rnic}
 use Rattle.rnic.specs.declared.RnicReceived.{RnicReceived}
 use Rattle.calls.specs.Words.{answerWords, words as wordsOf}
 use Rattle.calls.specs.Call.{calledReceive}
-use Rattle.rnic_c.specs.Entry.{ownerOf, slotOf, unchanged, changed, keptOwned, keptOwnedAnswer, keptOwnedStore, keptReceived, keptAnswer, keptStore, goodWrite, writtenStore}
+use Rattle.rnic_c.specs.Entry.{ownerOf, slotOf, unchanged, changed, keptOwned, keptOwnedAnswer, keptOwnedStore, keptReceived, keptAnswer, keptStore, entryWrite, writtenStore}
 use Rattle.rnic_c.specs.declared.entry.Kept.{Kept}
 
 -- the owner is one of the four, and so is the slot
@@ -65,23 +66,23 @@ module _ (d : Domain) (number slot : ℕ) (input : List ℕ) (h : slot ≤ 3) wh
   unfolding domainReceivedBytes
   parts-bytes bytes = simp (le-leb slot 3 h)
 
--- a good Write leaves the windows and the stream as they were, and receive answers that it is taken and puts its payload in its place
+-- a valid Write leaves the windows and the stream as they were, and receive answers that it is taken and puts its payload in its place
 module _ (p : Part) (ws : List Window) (s : Stream) (len n : ℕ) (input mem : List ℕ) where
   abbrev own : List ℕ
   own = midOf (p .start) (p .end - p .start) mem
 
-  abbrev KeptAs : GoodWrite → Kept → Answer → List ℕ → List ℕ → Type 0
-  KeptAs g r a before after = g .good ≡ true → (unchanged ws s ≡ r) × (wordsOf 6 (g .total) 0 0 0 0 ≡ answerWords a) × (before ≡ after)
+  abbrev KeptAs : ValidWrite → Kept → Answer → List ℕ → List ℕ → Type 0
+  KeptAs g r a before after = g .valid ≡ true → (unchanged ws s ≡ r) × (wordsOf 6 (g .total) 0 0 0 0 ≡ answerWords a) × (before ≡ after)
 
-  good-kept :
-      KeptAs (goodWrite p (windowAt ws (namedWindow input)) (s .phase) (s .crc) len (length mem) n input)
+  valid-kept :
+      KeptAs (entryWrite p (windowAt ws (namedWindow input)) (s .phase) (s .framing) len (length mem) n input)
       (keptReceived p ws s len (length mem) n input) (keptAnswer p ws s len (length mem) n input)
-      (writtenStore p (goodWrite p (windowAt ws (namedWindow input)) (s .phase) (s .crc) len (length mem) n input) input mem) (keptStore p ws s len n input mem)
-  unfolding goodWrite writtenStore keptReceived keptAnswer keptStore
-  good-kept = go (leb n 15) (eqb (length mem) len) (partFits p (length mem))
+      (writtenStore p (entryWrite p (windowAt ws (namedWindow input)) (s .phase) (s .framing) len (length mem) n input) input mem) (keptStore p ws s len n input mem)
+  unfolding entryWrite writtenStore keptReceived keptAnswer keptStore
+  valid-kept = go (leb n 15) (eqb (length mem) len) (partFits p (length mem))
     where
-      good : GoodWrite
-      good = domainWrite p (windowAt ws (namedWindow input)) (s .phase) (s .crc) (n / 4) input
+      valid : ValidWrite
+      valid = validWrite p (windowAt ws (namedWindow input)) (s .phase) (s .framing) (n / 4) input
 
       done : PartsReceived
       done = partsReceived ws (n / 4) s input
@@ -91,24 +92,24 @@ module _ (p : Part) (ws : List Window) (s : Stream) (len n : ℕ) (input mem : L
 
       go :
           (x y z : Bool) →
-          KeptAs (pick x (pick y (pick z good noWrite) noWrite) noWrite)
+          KeptAs (pick x (pick y (pick z valid noWrite) noWrite) noWrite)
           (pick x (pick y (pick z (changed ws done) (unchanged ws s)) (unchanged ws s)) (unchanged ws s))
           (pick x (pick y (pick z (done .answer) (Refused 9)) (Refused 2)) (Refused 1))
-          (pick z (with (written p (pick x (pick y (pick z good noWrite) noWrite) noWrite) input own)) mem)
+          (pick z (with (writePlaced p (pick x (pick y (pick z valid noWrite) noWrite) noWrite) input own)) mem)
           (pick x (pick y (pick z (with (partsReceivedBytes p ws (n / 4) s input own)) mem) mem) mem)
       go true true true = λ e.
-          let h = good-received p ws (n / 4) s input own e in
+          let h = valid-received p ws (n / 4) s input own e in
           (ap (changed ws) (sym (h .0)), ap (λ (r : PartsReceived). answerWords (r .answer)) (sym (h .0)), ap with (sym (h .1)))
       go true true false = λ e. absurd (false≢true e)
       go true false z = λ e. absurd (false≢true e)
       go false y z = λ e. absurd (false≢true e)
 
   write-kept :
-      (g : GoodWrite) → g ≡ goodWrite p (windowAt ws (namedWindow input)) (s .phase) (s .crc) len (length mem) n input →
+      (g : ValidWrite) → g ≡ entryWrite p (windowAt ws (namedWindow input)) (s .phase) (s .framing) len (length mem) n input →
       KeptAs g (keptReceived p ws s len (length mem) n input) (keptAnswer p ws s len (length mem) n input) (writtenStore p g input mem) (keptStore p ws s len n input mem)
   write-kept g e =
-      subst (λ (x : GoodWrite). KeptAs x (keptReceived p ws s len (length mem) n input) (keptAnswer p ws s len (length mem) n input) (writtenStore p x input mem) (keptStore p ws s len n input mem))
-      (sym e) good-kept
+      subst (λ (x : ValidWrite). KeptAs x (keptReceived p ws s len (length mem) n input) (keptAnswer p ws s len (length mem) n input) (writtenStore p x input mem) (keptStore p ws s len n input mem))
+      (sym e) valid-kept
 
 module _ (b : Rnic) where
   -- a domain with its windows and one stream exchanged, and the device with it
@@ -186,12 +187,12 @@ module _ (b : Rnic) where
       t .2 ∙ (λ z. keptStore (dom (e z) .part) (dom (e z) .windows) (streamAt (dom (e z)) (f z)) (b .len) n input mem) ∙ sym (store-is mem),
     )
 
-    -- a good Write: the device is as it was, and what put_write says at the end is what is said of it
-    pub write-told : (i j : ℕ) (mem : List ℕ) (g : GoodWrite) (words bytes : List ℕ) → i ≡ ownerOf n → j ≡ slotOf n
-        → g ≡ goodWrite (dom i .part) (windowAt (dom i .windows) (namedWindow input)) (streamAt (dom i) j .phase) (streamAt (dom i) j .crc) (b .len) (length mem) n input
-        → g .good ≡ true → words ≡ wordsOf 6 (g .total) 0 0 0 0 → bytes ≡ writtenStore (dom i .part) g input mem
+    -- a valid Write: the device is as it was, and what put_write says at the end is what is said of it
+    pub write-told : (i j : ℕ) (mem : List ℕ) (g : ValidWrite) (words bytes : List ℕ) → i ≡ ownerOf n → j ≡ slotOf n
+        → g ≡ entryWrite (dom i .part) (windowAt (dom i .windows) (namedWindow input)) (streamAt (dom i) j .phase) (streamAt (dom i) j .framing) (b .len) (length mem) n input
+        → g .valid ≡ true → words ≡ wordsOf 6 (g .total) 0 0 0 0 → bytes ≡ writtenStore (dom i .part) g input mem
         → (b ≡ calledReceive b (length mem) n input .rnic) × (words ≡ calledReceive b (length mem) n input .words) × (bytes ≡ rnicReceivedStore b n input mem)
-    write-told i j mem g words bytes e f told good w m =
-        let h = write-kept (dom i .part) (dom i .windows) (streamAt (dom i) j) (b .len) n input mem g told good in
+    write-told i j mem g words bytes e f told valid w m =
+        let h = write-kept (dom i .part) (dom i .windows) (streamAt (dom i) j) (b .len) n input mem g told valid in
         let k = kept-told i j mem (unchanged (dom i .windows) (streamAt (dom i) j)) words bytes e f (h .0, w ∙ h .1, m ∙ h .2) in
         (sym (back i j) ∙ k .0, k .1, k .2)

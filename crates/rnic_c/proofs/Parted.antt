@@ -1,4 +1,4 @@
--- A domain in memory: its windows taken out of it, with the way back, and its four streams, with the way back for them or for others; and what is known of the machine values of its part and its windows, and of a stream's phase. The windows start at byte 8 and the streams at byte 392.
+-- A domain in memory: its windows or its four streams taken out of it, with the way back for them or for others; and what is known of the machine values of its part and its windows, and of a stream's phase and framing. The windows start at byte 8 and the streams at byte 392.
 -- Assumes `Given`.
 use mathlib.Core.Path.{_≡_, refl, sym, ap, subst}
 use Prim.Native.Nat.{ℕ, _+_}
@@ -22,14 +22,15 @@ use denote.Struct.Declared.{fields, shape}
 use denote.Struct.Laws as LL
 use borrow.Struct.Behind.{put-at}
 use borrow.Struct.Items.{cut-records}
-use Rattle.ddp.specs.declared.window.Window.{Window}
+use Rattle.memory.specs.declared.window.Window.{Window}
 use Rattle.rdmap.specs.declared.stream.Stream.{Stream}
 use Rattle.domain.specs.Domain.{withWindows}
 use Rattle.domain.specs.declared.Domain.{Domain}
 use Rattle.rnic_c.specs.declared.entry.Kept.{Kept}
-use Rattle.ddp.proofs.part.Part as P
-use Rattle.ddp.proofs.window.Window as N
-use Rattle.rdmap.proofs.stream.Phase as F
+use Rattle.memory.proofs.part.Part as P
+use Rattle.memory.proofs.window.Window as N
+use Rattle.rdmap.proofs.phase.Phase as F
+use Rattle.rdmap.proofs.framing.Framing as Q
 use Rattle.rdmap.proofs.stream.Stream as S
 use Rattle.rdmap.proofs.stream.Stream.Laws as S′
 use Rattle.domain.proofs.Domain as D
@@ -69,13 +70,19 @@ module _ (d : Domain) (vs : List Val) (g : Is D.the-row d vs) where
   pub kept-is : (r : Kept) (us : List Val) → Is K.the-row r us → Is D.the-row (withWindows d (r .windows)) (LL.vals D.the-type D′.the-laws (withWindows d (r .windows)))
   kept-is r us k = LL.owes D.the-type D′.the-laws (withWindows d (r .windows)) (LL.owed D.the-type D′.the-laws d vs g .0, (LL.owed K.the-type K′.the-laws r us k .0, LL.owed D.the-type D′.the-laws d vs g .1 .1))
 
--- the machine values of a stream's phase
+-- the machine values of a stream's phase and of its framing
 abbrev pub phase-vals : Stream → List Val
 phase-vals s = valss (fields S.the-type) (LL.spells (S.the-type .parts) S′.the-laws) (S.the-type .to s) .0
+
+abbrev pub framing-vals : Stream → List Val
+framing-vals s = valss (fields S.the-type) (LL.spells (S.the-type .parts) S′.the-laws) (S.the-type .to s) .1 .0
 
 module _ (s : Stream) (vs : List Val) (g : Is S.the-row s vs) where
   pub phase-is : Is F.the-row (s .phase) (phase-vals s)
   phase-is = LL.owed S.the-type S′.the-laws s vs g .0
+
+  pub framing-is : Is Q.the-row (s .framing) (framing-vals s)
+  framing-is = LL.owed S.the-type S′.the-laws s vs g .1 .0
 
 -- the machine values of the windows and of the stream that are kept
 abbrev pub kept-window-vals : Kept → List Val
@@ -101,10 +108,10 @@ module _ (b o : ℕ) where
   streams ss = partAt (Array S.the-row 4) fullShare ss b (o + 392)
 
   module _ {M : Type 1} (𝓤 : URA M) (H : Heap 𝓤) (A : Atoms 𝓤) (W : Given 𝓤 H A) where
-    -- the windows out of a domain, and the way back
-    pub windows-cut : (d : Domain) → ent 𝓤 (sem 𝓤 H A (domain d)) (sep 𝓤 (sem 𝓤 H A (windows (d .windows))) (wand 𝓤 (sem 𝓤 H A (windows (d .windows))) (sem 𝓤 H A (domain d))))
-    windows-cut d = cut-records 𝓤 H A fullShare D.the-row N.the-type 16 8 d d (d .windows) (d .windows) (b, o)
-        (put-at 𝓤 H A W fullShare D.the-type D′.the-laws 1 8 refl refl (b, o) d d (d .part, (d .windows, (d .streams, tt))) (d .windows) refl refl)
+    -- the windows out of a domain, and the way back for others
+    pub windows-cut : (d : Domain) (ws : List Window) → ent 𝓤 (sem 𝓤 H A (domain d)) (sep 𝓤 (sem 𝓤 H A (windows (d .windows))) (wand 𝓤 (sem 𝓤 H A (windows ws)) (sem 𝓤 H A (domain (withWindows d ws)))))
+    windows-cut d ws = cut-records 𝓤 H A fullShare D.the-row N.the-type 16 8 d (withWindows d ws) (d .windows) ws (b, o)
+        (put-at 𝓤 H A W fullShare D.the-type D′.the-laws 1 8 refl refl (b, o) d (withWindows d ws) (d .part, (d .windows, (d .streams, tt))) ws refl refl)
 
     -- the streams out of a domain, and the way back for others
     pub streams-cut : (d : Domain) (ss : List Stream) → ent 𝓤 (sem 𝓤 H A (domain d)) (sep 𝓤 (sem 𝓤 H A (streams (d .streams))) (wand 𝓤 (sem 𝓤 H A (streams ss)) (sem 𝓤 H A (domain (withStreams d ss)))))

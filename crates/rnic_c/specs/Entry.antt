@@ -1,22 +1,22 @@
 -- Receive on what it needs of the owner's entry: what rnicReceived and rnicReceivedStore of the crate `rnic` make of a domain's part, its windows and one stream, the store's length beside them. proofs/Entries.antt shows that it is the device's receive.
 use Prim.Native.Nat.{ℕ, _/_, _%_, _-_}
-use mathlib.Core.Bool.{Bool}
 use mathlib.Core.List.{List}
 use lib.ListN.{length}
 use lib.Dec.{leb, eqb}
 use borrow.Rule.Slice.PartMut.{midOf, putMid}
 use Rattle.wire.specs.Wire.{pick}
-use Rattle.ddp.specs.declared.part.Part.{Part}
-use Rattle.ddp.specs.declared.window.Window.{Window}
-use Rattle.rdmap.specs.declared.stream.Phase.{Phase}
+use Rattle.memory.specs.declared.part.Part.{Part}
+use Rattle.memory.specs.declared.window.Window.{Window}
+use Rattle.rdmap.specs.declared.framing.Framing.{Framing}
+use Rattle.rdmap.specs.declared.phase.Phase.{Phase}
 use Rattle.rdmap.specs.declared.stream.Stream.{Stream}
 use Rattle.domain.specs.Parts.{partsReceived, partsReceivedBytes, killed}
-use Rattle.domain.specs.Write.{noWrite, goodWrite as domainWrite, written}
+use Rattle.domain.specs.Write.{noWrite, validWrite, writePlaced}
 use Rattle.domain.specs.declared.Answer.{Answer}
 use Rattle.domain.specs.declared.Answer.the-variants.{Refused}
 use Rattle.domain.specs.declared.parts.PartsReceived.{PartsReceived}
-use Rattle.domain.specs.declared.write.GoodWrite.{GoodWrite}
-use Rattle.rnic.specs.Rnic.{partFits}
+use Rattle.domain.specs.declared.write.ValidWrite.{ValidWrite}
+use Rattle.memory.specs.Part.{partFits}
 use Rattle.rnic_c.specs.declared.entry.Kept.{Kept}
 
 -- the domain that owns a stream; a number that is no stream's is for none, and its entry is left as it was
@@ -60,16 +60,16 @@ unfoldable pub keptStore : Part → List Window → Stream → ℕ → ℕ → L
 keptStore p ws s len n input mem =
     pick (leb n 15) (pick (eqb (length mem) len) (keptOwnedStore p ws s n input mem) mem) mem
 
--- ---- a good Write, which leaves the windows and the stream as they were
+-- ---- a valid Write, which leaves the windows and the stream as they were
 
--- of the window that the bytes name, and of the stream's phase and CRC; where receive refuses the call there is none
-unfoldable pub goodWrite : Part → Window → Phase → Bool → ℕ → ℕ → ℕ → List ℕ → GoodWrite
-goodWrite p w phase crc len size n input =
-    pick (leb n 15) (pick (eqb size len) (pick (partFits p size) (domainWrite p w phase crc (n / 4) input) noWrite) noWrite) noWrite
+-- the first FPDU of the bytes, if it is a valid Write: of the window that the bytes name, and of the stream's phase and framing; where receive refuses the call there is none
+unfoldable pub entryWrite : Part → Window → Phase → Framing → ℕ → ℕ → ℕ → List ℕ → ValidWrite
+entryWrite p w phase f len size n input =
+    pick (leb n 15) (pick (eqb size len) (pick (partFits p size) (validWrite p w phase f (n / 4) input) noWrite) noWrite) noWrite
 
 -- and the store with its payload in its place
-unfoldable pub writtenStore : Part → GoodWrite → List ℕ → List ℕ → List ℕ
+unfoldable pub writtenStore : Part → ValidWrite → List ℕ → List ℕ → List ℕ
 writtenStore p g input mem =
     pick (partFits p (length mem))
-    (putMid (p .start) (p .end - p .start) mem (written p g input (midOf (p .start) (p .end - p .start) mem)))
+    (putMid (p .start) (p .end - p .start) mem (writePlaced p g input (midOf (p .start) (p .end - p .start) mem)))
     mem

@@ -1,8 +1,9 @@
 // The device for a C program, or one in Rust: it holds a device of its own and a store of any size
-// up to 16 MiB, and calls the device by a call's number with nine numbers, or its receive by itself.
+// up to 16 MiB, and calls the device by a call's number with nine numbers, or its receive by
+// itself.
 //
-// Read `rnic_c_call` first, over `call` of the crate `calls`, which has the numbers of the calls and the
-// words of the answers; include/rnic.h has both for C.
+// Read `rnic_c_call` first, over `call` of the crate `calls`, which has the numbers of the calls
+// and the words of the answers; include/rnic.h has both for C.
 ghost use mathlib.Core.Path.{_≡_};
 ghost use lib.ListN.{length};
 ghost use Rattle.calls.specs.Call.{called, calledStore, calledReceive};
@@ -35,10 +36,10 @@ pub extern "C" fn rnic_c_call(
     *device = next;
 }
 
-// The device's receive by itself: what `rnic_c_call` does with the number 9, but that no more of the
-// device is copied than is needed. A good Write needs of the owner's entry the part, one window, and
-// the phase and the CRC of the one stream, and changes nothing of it. For all else the windows and
-// the stream are copied too, and written back.
+// The device's receive by itself: what `rnic_c_call` does with the number 9, but that no more of
+// the device is copied than is needed. A valid Write needs of the owner's entry the part, one
+// window, and the phase and the framing of the one stream, and changes nothing of it. For all else
+// the windows and the stream are copied too, and written back.
 #[no_mangle]
 pub extern "C" fn rnic_c_receive(
     device: &mut Rnic,
@@ -58,9 +59,18 @@ pub extern "C" fn rnic_c_receive(
     let window = d.windows[named];
     let s = &mut d.streams[slot];
     let phase = s.phase;
-    let crc = s.crc;
-    let write = judge_write(part, window, phase, crc, len, store.len(), stream, bytes);
-    if write.good {
+    let framing = s.framing;
+    let write = judge_write(
+        part,
+        window,
+        phase,
+        framing,
+        len,
+        store.len(),
+        stream,
+        bytes,
+    );
+    if write.valid {
         put_write(part, write, store, bytes, answer);
         return;
     }

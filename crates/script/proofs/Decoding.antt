@@ -12,7 +12,7 @@ use lib.Seq.{take-all, paste}
 use borrow.Author.Tests.{le-leb, lt-leb, ltb-true, leb-true}
 use Rattle.script.specs.Number.{all}
 use Rattle.wire.specs.Wire.{same}
-use Rattle.script.specs.Hex.{dash, nibble, isHexDigit, isHex, hexLengthOf, pairs, within, decodedOf, decodedIn}
+use Rattle.script.specs.Hex.{dash, nibble, isHexDigit, isHex, hexLengthOf, pairs, withRoom, decodedOf, decodedIn}
 use Rattle.script.specs.declared.hex.HexLength.{HexLength}
 use Rattle.script.specs.declared.hex.Decoded.{Decoded}
 use Rattle.wire.proofs.Laws.{same-eq}
@@ -82,7 +82,7 @@ within-by m n room true h q =
     omega (arith, leb-true m room h)
 within-by m n room false h q = let z : _≡_ {A = ℕ} 0 1 = cc in absurd (omega arith)
 
-within-room : (h : HexLength) (n room : ℕ) → within h room ≡ Decoded.Bytes n → n ≤ room
+within-room : (h : HexLength) (n room : ℕ) → withRoom h room ≡ Decoded.Bytes n → n ≤ room
 within-room (HexLength.Bytes m) n room q = within-by m n room (leb m room) refl q
 within-room HexLength.Bad n room q = let z : _≡_ {A = ℕ} 0 1 = cc in absurd (omega arith)
 

@@ -37,13 +37,13 @@ pairs (h ∷ []) = []
 pairs (h ∷ l ∷ w) = (nibble h * 16 + nibble l) ∷ pairs w
 
 -- n bytes where there is room for them
-abbrev pub within : HexLength → ℕ → Decoded
-within (HexLength.Bytes n) room = cond (leb n room) (Decoded.Bytes n) Decoded.Bad
-within HexLength.Bad room = Decoded.Bad
+abbrev pub withRoom : HexLength → ℕ → Decoded
+withRoom (HexLength.Bytes n) room = cond (leb n room) (Decoded.Bytes n) Decoded.Bad
+withRoom HexLength.Bad room = Decoded.Bad
 
 -- how many bytes are written for a word into `room` bytes
 unfoldable pub decodedOf : List ℕ → ℕ → Decoded
-decodedOf w room = within (hexLengthOf w) room
+decodedOf w room = withRoom (hexLengthOf w) room
 
 -- the word's bytes and then the rest of out, or all of out
 abbrev pub written : Decoded → List ℕ → List ℕ → List ℕ

@@ -8,13 +8,13 @@ use lib.Dec.{leb}
 use Rattle.wire.specs.Wire.{put}
 
 -- whether s fits into out at `at`
-abbrev pub fits : List ℕ → List ℕ → ℕ → Bool
-fits s out at = leb (at + length s) (length out)
+abbrev pub putFits : List ℕ → List ℕ → ℕ → Bool
+putFits s out at = leb (at + length s) (length out)
 
 -- out, with s from `at` on where it fits
 unfoldable pub putIn : List ℕ → List ℕ → ℕ → List ℕ
-putIn s out at = cond (fits s out at) (put out at s) out
+putIn s out at = cond (putFits s out at) (put out at s) out
 
 -- the place after s where it fits, and else `at`
 unfoldable pub putEnd : List ℕ → List ℕ → ℕ → ℕ
-putEnd s out at = cond (fits s out at) (at + length s) at
+putEnd s out at = cond (putFits s out at) (at + length s) at

@@ -7,11 +7,11 @@ use lib.ListN.{take, drop}
 use lib.Seq.{take-nil, drop-drop}
 use Rattle.wire.specs.Wire.{part}
 use Rattle.ddp.specs.Header.{headerRead}
-use Rattle.segment.specs.Segment.{segmentOf}
+use Rattle.ddp.specs.Segment.{segmentOf}
 use Rattle.ddp.specs.declared.header.HeaderRead.{HeaderRead}
 use Rattle.ddp.specs.declared.header.HeaderRead.the-variants.{Tagged, Untagged, Refused}
-use Rattle.segment.specs.declared.SegmentRead.{SegmentRead}
-use Rattle.segment.specs.declared.SegmentRead.the-variants.{Wait, Refused as SegmentRefused, Tagged as TaggedSegment, Untagged as UntaggedSegment}
+use Rattle.ddp.specs.declared.segment.SegmentRead.{SegmentRead}
+use Rattle.ddp.specs.declared.segment.SegmentRead.the-variants.{Wait, Refused as SegmentRefused, Tagged as TaggedSegment, Untagged as UntaggedSegment}
 use Rattle.segment_reader.specs.Header.{payloadAfter, payloadOf}
 
 -- the payload of a segment that was read: the bytes that it names

@@ -52,19 +52,19 @@ queueOf (Be32Value qn) Be32End mo = QueueEnd
 queueOf Be32End msn mo = QueueEnd
 
 -- the header of its fields: 22 where one is missing, 23 where the version is another
-abbrev pub taggedOf : ℕ → ℕ → ℕ → ℕ → HeaderRead
-taggedOf first control stag to =
+abbrev pub taggedHeaderOf : ℕ → ℕ → ℕ → ℕ → HeaderRead
+taggedHeaderOf first control stag to =
     pick (versionOne first) (Tagged record { last = lastBit first; control = control; stag = stag; to = to }) (Refused taggedVersion)
 
-abbrev pub untaggedOf : ℕ → ℕ → ℕ → Queue → HeaderRead
-untaggedOf first control stag (QueueFields qn msn mo) =
+abbrev pub untaggedHeaderOf : ℕ → ℕ → ℕ → Queue → HeaderRead
+untaggedHeaderOf first control stag (QueueFields qn msn mo) =
     pick (versionOne first)
     (Untagged record { last = lastBit first; control = control; stag = stag; qn = qn; msn = msn; mo = mo })
     (Refused untaggedVersion)
-untaggedOf first control stag QueueEnd = Refused segmentTooShort
+untaggedHeaderOf first control stag QueueEnd = Refused segmentTooShort
 
 abbrev pub headerOf : Start → Be64Field → Queue → HeaderRead
 headerOf (StartFields first control stag) (Be64Value to) queue =
-    pick (taggedBit first) (taggedOf first control stag to) (untaggedOf first control stag queue)
+    pick (taggedBit first) (taggedHeaderOf first control stag to) (untaggedHeaderOf first control stag queue)
 headerOf (StartFields first control stag) Be64End queue = Refused segmentTooShort
 headerOf StartEnd to queue = Refused segmentTooShort

@@ -7,8 +7,8 @@ ghost use Rattle.segment_reader.specs.Header.{
   payloadOf,
   startOf,
   queueOf,
-  taggedOf,
-  untaggedOf,
+  taggedHeaderOf,
+  untaggedHeaderOf,
   headerOf,
 };
 use crate::field::Be32Field;
@@ -19,6 +19,7 @@ use ddp::header::HeaderRead;
 use ddp::header::TaggedHeader;
 use ddp::header::UntaggedHeader;
 use ddp::header::is_last;
+use ddp::header::is_tagged;
 use ddp::refusal::SEGMENT_TOO_SHORT;
 use ddp::refusal::TAGGED_VERSION;
 use ddp::refusal::UNTAGGED_VERSION;
@@ -92,7 +93,7 @@ pub fn queue_of(qn: Be32Field, msn: Be32Field, mo: Be32Field) -> Queue
 
 // The tagged header of its fields.
 fn tagged_of(first: u8, control: u8, stag: u32, to: u64) -> HeaderRead
-    ensures { λ r. ⌜ r ≡ taggedOf first control stag to ⌝ }
+    ensures { λ r. ⌜ r ≡ taggedHeaderOf first control stag to ⌝ }
 {
     if first % 4 == 1 {
         let last = is_last(first);
@@ -108,7 +109,7 @@ fn tagged_of(first: u8, control: u8, stag: u32, to: u64) -> HeaderRead
 
 // The untagged header of its fields.
 fn untagged_of(first: u8, control: u8, stag: u32, queue: Queue) -> HeaderRead
-    ensures { λ r. ⌜ r ≡ untaggedOf first control stag queue ⌝ }
+    ensures { λ r. ⌜ r ≡ untaggedHeaderOf first control stag queue ⌝ }
 {
     let Queue::Fields { qn, msn, mo } = queue else {
         return HeaderRead::Refused(SEGMENT_TOO_SHORT);
@@ -142,7 +143,7 @@ pub fn header_of(start: Start, to: Be64Field, queue: Queue) -> HeaderRead
     let Be64Field::Value(to) = to else {
         return HeaderRead::Refused(SEGMENT_TOO_SHORT);
     };
-    if 128 <= first {
+    if is_tagged(first) {
         return tagged_of(first, control, stag, to);
     }
     untagged_of(first, control, stag, queue)

@@ -1,5 +1,6 @@
--- `receive_owned` meets its contract: the two tests are those of `partFits`, the owner's entry and the bytes of its part are what the domain's call gives.
-use borrow.Author.Tests.{le-leb, lt-leb}
+-- `receive_owned` meets its contract: `fits_in` picks the case; the owner's entry and the bytes of its part are what the domain's call gives.
+use mathlib.Core.Path.{sym, _∙_}
+use Rattle.memory.proofs.Laws.{fits-ends}
 use Rattle.rnic.specs.Rnic.{receivedOwned, receivedOwnedStore}
 use borrow.Author.Needs.{needs}
 use Rattle.rnic.proofs.receive_owned.Statement.{statement}
@@ -11,17 +12,23 @@ mul-dom c = search needs
 element-copy-out-dom : tie.Need-element-copy-out-dom
 element-copy-out-dom c = search needs
 
+fits-in-requires : tie.Need-fits-in-requires
+fits-in-requires c κs = search needs
+
 cast-start : tie.Need-cast-start
 cast-start c = search needs
 
 cast-end : tie.Need-cast-end
 cast-end c = search needs
 
+sub-receive : tie.Need-sub-receive
+sub-receive c = fits-ends _ _ (sym (c .before .before .before .fits-in .ensures) ∙ c .before .before .if1 .taken) .0
+
 part-receive-start : tie.Need-part-receive-start
-part-receive-start c = search needs
+part-receive-start c = fits-ends _ _ (sym (c .before .before .before .fits-in .ensures) ∙ c .before .before .if1 .taken) .0
 
 part-receive-end : tie.Need-part-receive-end
-part-receive-end c = search needs
+part-receive-end c = fits-ends _ _ (sym (c .before .before .before .fits-in .ensures) ∙ c .before .before .if1 .taken) .1
 
 receive-requires : tie.Need-receive-requires
 receive-requires c κs = search needs
@@ -34,18 +41,14 @@ same-length c = search needs
 
 returns : tie.Need-returns
 unfolding receivedOwned receivedOwnedStore
-returns c = (
-  simp (le-leb _ _ (c .before .before .before .before .before .before .if1 .taken), le-leb _ _ (c .before .before .before .before .before .if2 .taken), c .with-domain .ensures, c .before .before .before .receive .ensures .0),
-  simp (le-leb _ _ (c .before .before .before .before .before .before .if1 .taken), le-leb _ _ (c .before .before .before .before .before .if2 .taken), c .before .before .before .receive .ensures .1),
-)
+returns c =
+    let fits = sym (c .before .before .before .before .before .before .before .before .fits-in .ensures) ∙ c .before .before .before .before .before .before .before .if1 .taken in
+    let received = c .before .before .before .receive .ensures in
+    (simp (fits, c .with-domain .ensures, received .0), simp (fits, received .1))
 
 returns-2 : tie.Need-returns-2
 unfolding receivedOwned receivedOwnedStore
-returns-2 c = (simp (le-leb _ _ (c .before .if1 .taken), lt-leb _ _ (c .if2 .left)), simp (le-leb _ _ (c .before .if1 .taken), lt-leb _ _ (c .if2 .left)))
-
-returns-3 : tie.Need-returns-3
-unfolding receivedOwned receivedOwnedStore
-returns-3 c = (simp (lt-leb _ _ (c .if1 .left)), simp (lt-leb _ _ (c .if1 .left)))
+returns-2 c = let fits = sym (c .before .fits-in .ensures) ∙ c .if1 .left in (simp (fits), simp (fits))
 
 pub receive-owned-spec : {M : Type 1} → statement M
 receive-owned-spec =
@@ -53,13 +56,14 @@ receive-owned-spec =
     (tie.spec
     mul-dom
     element-copy-out-dom
+    fits-in-requires
     cast-start
     cast-end
+    sub-receive
     part-receive-start
     part-receive-end
     receive-requires
     with-domain-requires
     same-length
     returns
-    returns-2
-    returns-3)
+    returns-2)

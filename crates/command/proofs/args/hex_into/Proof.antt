@@ -26,13 +26,13 @@ returns : tie.Need-returns
 returns c =
     let e = sym (c .before .before .before .before .before .decode .ensures .0) ∙ c .before .n .given .1 in
     let k : c .before .n .given .0 .0 ≤ length (c .before .before .before .before .before .decode .last .1 .0) = omega (arith, decoded-within _ _ _ e, c .before .before .before .before .before .decode .kept .1 .0) in
-    ((k, sym (length-take-le _ _ k)), ap hexOf (sym e))
+    ((k, sym (length-take-le _ _ k)), (ap hexOf (sym e), c .before .before .before .before .before .decode .ensures .1))
 
 same-length-2 : tie.Need-same-length-2
 same-length-2 c = search needs
 
 returns-2 : tie.Need-returns-2
-returns-2 c = ((search needs, search needs), ap hexOf (sym (sym (c .before .before .before .before .decode .ensures .0) ∙ c .enum-told .given .1)))
+returns-2 c = ((search needs, search needs), (ap hexOf (sym (sym (c .before .before .before .before .decode .ensures .0) ∙ c .enum-told .given .1)), c .before .before .before .before .decode .ensures .1))
 
 pub hex-into-spec : {M : Type 1} → statement M
 hex-into-spec =

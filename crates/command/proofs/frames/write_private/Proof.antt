@@ -1,10 +1,7 @@
--- `write_private` meets its contract: a frame that was written lies within its room, and so within the frame buffer.
-use mathlib.Core.Path.{sym, _∙_}
-use lib.ListN.{drop}
+-- `write_private` meets its contract: the writer was lent the part of the slice of the room asked for, and the rest of the slice is as it was.
+use mathlib.Core.Path.{sym}
 use lib.Seq.{length-take-le}
 use borrow.Author.Needs.{needs}
-use Rattle.command.proofs.Within.{front-within}
-use Rattle.mpa.proofs.Startups.{admitted}
 use Rattle.command.proofs.frames.write_private.Statement.{statement}
 use Rattle.command.proofs.frames.write_private.Tie as tie
 
@@ -20,41 +17,11 @@ slice-aggregate-write-startup c = sym (length-take-le _ _ (search needs))
 write-startup-requires : tie.Need-write-startup-requires
 write-startup-requires c κs = search needs
 
-enum-known-n : tie.Need-enum-known-n
-enum-known-n c = search needs
-
-slice-reshare-prefix-wrote : tie.Need-slice-reshare-prefix-wrote
-slice-reshare-prefix-wrote c = front-within (c .before .before .before .before .before .write-startup .last .1 .1 .1 .1 .0) (drop (c .before .before .before .before .before .before .before .room .result) (c .before .before .before .before .before .before .before .before .before .before .before .args .frame .now)) _ (c .before .before .before .before .before .write-startup .kept .1 .1 .1 .1 .0) (admitted _ _ _ _ _ (sym (c .before .before .before .before .before .write-startup .ensures .0) ∙ c .before .n .given .1) .within)
-
-slice-aggregate-wrote : tie.Need-slice-aggregate-wrote
-slice-aggregate-wrote c = sym (length-take-le _ _ (front-within (c .before .before .before .before .before .before .write-startup .last .1 .1 .1 .1 .0) (drop (c .before .before .before .before .before .before .before .before .room .result) (c .before .before .before .before .before .before .before .before .before .before .before .before .args .frame .now)) _ (c .before .before .before .before .before .before .write-startup .kept .1 .1 .1 .1 .0) (admitted _ _ _ _ _ (sym (c .before .before .before .before .before .before .write-startup .ensures .0) ∙ c .before .before .n .given .1) .within)))
-
-wrote-requires : tie.Need-wrote-requires
-wrote-requires c κs = search needs
-
-enum-known-number : tie.Need-enum-known-number
-enum-known-number c = search needs
-
-refused-requires : tie.Need-refused-requires
-refused-requires c κs = search needs
-
 same-length : tie.Need-same-length
 same-length c = search needs
 
-same-length-2 : tie.Need-same-length-2
-same-length-2 c = search needs
-
 returns : tie.Need-returns
-returns c = search needs
-
-same-length-3 : tie.Need-same-length-3
-same-length-3 c = search needs
-
-same-length-4 : tie.Need-same-length-4
-same-length-4 c = search needs
-
-returns-2 : tie.Need-returns-2
-returns-2 c = search needs
+returns c = (cc (length-take-le (c .before .before .before .before .room .result) (c .before .before .before .before .before .before .before .args .frame .now) (search needs)), cc)
 
 pub write-private-spec : {M : Type 1} → statement M
 write-private-spec =
@@ -64,15 +31,5 @@ write-private-spec =
     slice-relend-prefix-write-startup
     slice-aggregate-write-startup
     write-startup-requires
-    enum-known-n
-    slice-reshare-prefix-wrote
-    slice-aggregate-wrote
-    wrote-requires
-    enum-known-number
-    refused-requires
     same-length
-    same-length-2
-    returns
-    same-length-3
-    same-length-4
-    returns-2)
+    returns)

@@ -4,7 +4,7 @@ use mathlib.Core.Path.{ap, _∙_}
 use mathlib.Core.List.{List}
 use Rattle.wire.specs.Wire.{put, be32}
 use lib.ListN.{length}
-use Rattle.ddp.specs.Header.{untaggedBytes, written, writtenOut}
+use Rattle.ddp.specs.Header.{untaggedBytes, headerWritten, writtenOut}
 use Rattle.ddp.proofs.Round.{untagged-length, untagged-put}
 use borrow.Author.Needs.{needs}
 use native.Mathlib.Omega.{arith}
@@ -13,7 +13,7 @@ use Rattle.ddp.proofs.header.write_untagged.Statement.{statement}
 use Rattle.ddp.proofs.header.write_untagged.Tie as tie
 
 returns : tie.Need-returns
-unfolding written writtenOut
+unfolding headerWritten writtenOut
 returns c = (simp (lt-ltb _ _ (c .if1 .taken)), simp (untagged-length, lt-ltb _ _ (c .if1 .taken)))
 
 write-start-requires : tie.Need-write-start-requires
@@ -32,7 +32,7 @@ same-length : tie.Need-same-length
 same-length c = search needs
 
 returns-2 : tie.Need-returns-2
-unfolding written writtenOut
+unfolding headerWritten writtenOut
 returns-2 c =
     let a = c .before .before .before .before .before .before .before .before .before .before .before .before .before .before .before .before .before .before .args in
     let room : length (untaggedBytes (a .h)) ≤ length (a .out .now) = omega (arith, untagged-length (a .h)) in (

@@ -2,7 +2,7 @@
 use mathlib.Core.Path.{sym, ap, _∙_}
 use borrow.Author.Tests.{eq-eqb, ne-eqb}
 use Rattle.ddp.specs.Tagged.{taggedOf, taggedAt}
-use Rattle.ddp.specs.declared.window.Found.{Found}
+use Rattle.memory.specs.declared.window.Found.{Found}
 use borrow.Author.Needs.{needs}
 use Rattle.ddp.proofs.tagged.judge_tagged.Statement.{statement}
 use Rattle.ddp.proofs.tagged.judge_tagged.Tie as tie

@@ -6,12 +6,12 @@ use mathlib.Core.List.{List}
 use native.Mathlib.Omega.{arith}
 use lib.ListN.{length, take, drop}
 use Rattle.wire.specs.Wire.{part}
-use Rattle.ddp.specs.Window.{windowAt}
+use Rattle.memory.specs.Window.{windowAt}
 use Rattle.ddp.specs.Untagged.{untaggedOf}
-use Rattle.ddp.specs.declared.part.Part.{Part}
+use Rattle.memory.specs.declared.part.Part.{Part}
 use Rattle.ddp.specs.declared.header.UntaggedHeader.{UntaggedHeader}
-use Rattle.ddp.specs.declared.window.Window.{Window}
-use Rattle.segment.specs.declared.SegmentRead.{SegmentRead}
+use Rattle.memory.specs.declared.window.Window.{Window}
+use Rattle.ddp.specs.declared.segment.SegmentRead.{SegmentRead}
 use Rattle.rdmap.specs.declared.stream.Stream.{Stream}
 use Rattle.rdmap.specs.Message.{queuesOf, untaggedVerdict}
 use Rattle.rdmap.specs.declared.message.Verdict.{Verdict}
@@ -24,16 +24,16 @@ use Rattle.domain.proofs.parts.judge_first.Statement.{statement}
 use Rattle.domain.proofs.parts.judge_first.Tie as tie
 
 -- the payload ends in the bytes
-tagged-ends : (t : tie.After-total) → t .total .given .0 .1 .1 .0 + t .total .given .0 .1 .1 .1 .0 ≤ length (t .before .before .before .before .before .args .bytes .now)
+tagged-ends : (t : tie.After-total) → t .total .given .0 .1 .1 .0 + t .total .given .0 .1 .1 .1 .0 ≤ length (t .before .before .before .before .before .before .args .bytes .now)
 tagged-ends t = inside _ _ _ (sym (t .total .given .1) ∙ t .before .before .read-segment .ensures)
 
-untagged-ends : (t : tie.After-total2) → t .total2 .given .0 .1 .1 .0 + t .total2 .given .0 .1 .1 .1 .0 ≤ length (t .before .before .before .before .before .args .bytes .now)
+untagged-ends : (t : tie.After-total2) → t .total2 .given .0 .1 .1 .0 + t .total2 .given .0 .1 .1 .1 .0 ≤ length (t .before .before .before .before .before .before .args .bytes .now)
 untagged-ends t = inside _ _ _ (sym (t .total2 .given .1) ∙ t .before .before .read-segment .ensures)
 
 -- what an untagged segment of this payload is judged to be
 abbrev untagged : List Window → ℕ → Stream → UntaggedHeader → List ℕ → Verdict
 untagged windows number s h payload =
-    untaggedVerdict windows number s h payload (untaggedOf (queuesOf s) (h .qn) (h .msn) (h .mo) (length payload))
+    untaggedVerdict windows number (s .sends) h payload (untaggedOf (queuesOf s) (h .qn) (h .msn) (h .mo) (length payload))
 
 module _ (p : Part) (windows : List Window) (number : ℕ) (s : Stream) (bytes store : List ℕ) where
   -- the contract, of what was read
@@ -125,14 +125,14 @@ place-by-requires-2 c κs = search needs
 
 returns : tie.Need-returns
 returns c =
-    let a = c .before .before .before .before .before .before .args in
+    let a = c .before .before .before .before .before .before .before .args in
     answers (a .part) (a .t2) (a .number) (a .s) (a .bytes .now) (a .store .now)
     (sym (c .before .n .given .1) ∙ c .before .before .before .read-segment .ensures)
     (refl, refl)
 
 returns-2 : tie.Need-returns-2
 returns-2 c =
-    let a = c .before .before .before .before .before .before .args in
+    let a = c .before .before .before .before .before .before .before .args in
     answers (a .part) (a .t2) (a .number) (a .s) (a .bytes .now) (a .store .now)
     (sym (c .before .refusal .given .1) ∙ c .before .before .before .read-segment .ensures)
     (refl, refl)
@@ -143,7 +143,7 @@ same-length c = search needs
 returns-3 : tie.Need-returns-3
 returns-3 c =
     let t = c .before .before .before .before .before .before .before .before .before in
-    let a = t .before .before .before .before .before .args in
+    let a = t .before .before .before .before .before .before .args in
     let g = t .total .given in
     answers (a .part) (a .t2) (a .number) (a .s) (a .bytes .now) (a .store .now)
     (sym (g .1) ∙ t .before .before .read-segment .ensures)
@@ -158,7 +158,7 @@ same-length-2 c = search needs
 returns-4 : tie.Need-returns-4
 returns-4 c =
     let t = c .before .before .before .before .before .before .before .before in
-    let a = t .before .before .before .before .before .args in
+    let a = t .before .before .before .before .before .before .args in
     let g = t .total2 .given in
     answers (a .part) (a .t2) (a .number) (a .s) (a .bytes .now) (a .store .now)
     (sym (g .1) ∙ t .before .before .read-segment .ensures)

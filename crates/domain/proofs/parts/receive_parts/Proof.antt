@@ -39,7 +39,7 @@ same-length c = search needs
 returns : tie.Need-returns
 unfolding partsReceived partsReceivedBytes
 returns c =
-    let a = c .before .before .before .before .before .before .before .before .before .before .before .before .before .args in
+    let a = c .before .before .before .before .before .before .before .before .before .before .before .before .before .before .args in
     let j = c .before .before .before .before .before .before .judge-first in
     let e = sym (c .before .before .before .before .before .before .before .before .enum-told .given .1) ∙ c .before .before .before .before .before .before .before .before .before .before .ready .ensures in (
       c .unchanged .ensures
@@ -54,7 +54,7 @@ same-length-2 c = search needs
 returns-2 : tie.Need-returns-2
 unfolding partsReceived partsReceivedBytes
 returns-2 c =
-    let a = c .before .before .before .before .before .before .before .before .before .before .before .before .before .args in
+    let a = c .before .before .before .before .before .before .before .before .before .before .before .before .before .before .args in
     let j = c .before .before .before .before .before .before .judge-first in
     let e = sym (c .before .before .before .before .before .before .before .before .enum-told .given .1) ∙ c .before .before .before .before .before .before .before .before .before .before .ready .ensures in (
       c .apply .ensures
@@ -66,7 +66,7 @@ returns-2 c =
 returns-3 : tie.Need-returns-3
 unfolding partsReceived partsReceivedBytes
 returns-3 c =
-    let a = c .before .before .before .before .before .before .before .args in
+    let a = c .before .before .before .before .before .before .before .before .args in
     let e = sym (c .before .before .refusal .given .1) ∙ c .before .before .before .before .ready .ensures in (
       c .unchanged2 .ensures ∙ ap (partsWhen (a .windows) (a .number) (a .s) (a .bytes .now)) e,
       ap (partsBytesWhen (a .part) (a .windows) (a .number) (a .s) (a .bytes .now) (a .store .now)) e,

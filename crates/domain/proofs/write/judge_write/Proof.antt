@@ -1,4 +1,4 @@
--- `judge_write` meets its contract: T and the phase pick the case of `goodWrite`, and `judge_segment` gives the rest.
+-- `judge_write` meets its contract: T and the phase pick the case of `validWrite`, and `judge_segment` gives the rest.
 use Prim.Native.Nat.{ℕ}
 use mathlib.Core.Bool.{Bool, true, false}
 use mathlib.Core.List.{List}
@@ -6,18 +6,19 @@ use mathlib.Core.Path.{_≡_, refl, sym, _∙_}
 use lib.Dec.{eqb}
 use borrow.Author.Tests.{ne-eqb}
 use Rattle.wire.specs.Wire.{pick}
-use Rattle.ddp.specs.declared.part.Part.{Part}
-use Rattle.ddp.specs.declared.window.Window.{Window}
-use Rattle.rdmap.specs.declared.stream.Readiness.the-variants.{NotReady}
-use Rattle.domain.specs.Write.{noWrite, writeWhen, goodWrite}
+use Rattle.memory.specs.declared.part.Part.{Part}
+use Rattle.memory.specs.declared.window.Window.{Window}
+use Rattle.rdmap.specs.declared.framing.Framing.{Framing}
+use Rattle.rdmap.specs.declared.phase.Readiness.the-variants.{NotReady}
+use Rattle.domain.specs.Write.{noWrite, writeWhen, validWrite}
 use borrow.Author.Needs.{needs}
 use Rattle.domain.proofs.write.judge_write.Statement.{statement}
 use Rattle.domain.proofs.write.judge_write.Tie as tie
 
 -- a stream that is not open, closed or ended
-not-ready : (p : Part) (w : Window) (crc : Bool) (number : ℕ) (input : List ℕ) (t : Bool) → writeWhen p w crc number input (pick t (NotReady 3) (NotReady 5)) ≡ noWrite
-not-ready p w crc number input true = refl
-not-ready p w crc number input false = refl
+not-ready : (p : Part) (w : Window) (f : Framing) (number : ℕ) (input : List ℕ) (t : Bool) → writeWhen p w f number input (pick t (NotReady 3) (NotReady 5)) ≡ noWrite
+not-ready p w f number input true = refl
+not-ready p w f number input false = refl
 
 starts-tagged-requires : tie.Need-starts-tagged-requires
 starts-tagged-requires c κs = search needs
@@ -26,7 +27,7 @@ judge-segment-requires : tie.Need-judge-segment-requires
 judge-segment-requires c κs = search needs
 
 returns : tie.Need-returns
-unfolding goodWrite
+unfolding validWrite
 returns c =
     simp (sym (c .before .before .before .starts-tagged .ensures), c .before .before .if1 .taken, c .before .if2 .taken) (c .judge-segment .ensures)
 
@@ -34,17 +35,17 @@ no-write-requires : tie.Need-no-write-requires
 no-write-requires c κs = search needs
 
 returns-2 : tie.Need-returns-2
-unfolding goodWrite
+unfolding validWrite
 returns-2 c =
     let a = c .before .before .before .before .before .args in
     simp (sym (c .before .before .before .starts-tagged .ensures), c .before .before .if1 .taken, ne-eqb _ _ (c .before .if2 .left))
-    (c .no-write .ensures ∙ sym (not-ready (a .part) (a .w) (a .crc) (a .number) (a .bytes .now) (eqb (a .phase .state) 0)))
+    (c .no-write .ensures ∙ sym (not-ready (a .part) (a .w) (a .framing) (a .number) (a .bytes .now) (eqb (a .phase .state) 0)))
 
 no-write-requires-2 : tie.Need-no-write-requires-2
 no-write-requires-2 c κs = search needs
 
 returns-3 : tie.Need-returns-3
-unfolding goodWrite
+unfolding validWrite
 returns-3 c =
     simp (sym (c .before .before .starts-tagged .ensures), c .before .if1 .left) (c .no-write2 .ensures)
 

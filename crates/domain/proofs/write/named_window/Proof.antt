@@ -1,7 +1,7 @@
 -- `named_window` meets its contract: the test on the length picks the case, and `slot_named` and `get_be32` give the slot.
 use mathlib.Core.Path.{ap, _∙_}
 use borrow.Author.Tests.{le-leb, lt-leb}
-use Rattle.ddp.specs.Window.{slotNamed}
+use Rattle.memory.specs.Window.{slotNamed}
 use Rattle.domain.specs.Write.{namedWindow}
 use borrow.Author.Needs.{needs}
 use Rattle.domain.proofs.write.named_window.Statement.{statement}

@@ -6,14 +6,14 @@ use native.Mathlib.Omega.{arith}
 use lib.ListN.{length}
 use borrow.Author.Tests.{le-leb, lt-leb}
 use Rattle.domain.specs.Parts.{placedFrom}
-use Rattle.domain.specs.Write.{written}
+use Rattle.domain.specs.Write.{writePlaced}
 use Rattle.domain.proofs.Inside.{lent}
 use borrow.Author.Needs.{needs}
 use Rattle.domain.proofs.write.put_write.Statement.{statement}
 use Rattle.domain.proofs.write.put_write.Tie as tie
 
 returns : tie.Need-returns
-unfolding written
+unfolding writePlaced
 returns c =
     let a = c .before .before .before .args in
     let h : length (a .bytes .now) < a .write .start + a .write .len = omega arith in
@@ -23,7 +23,7 @@ sub-if2 : tie.Need-sub-if2
 sub-if2 c = search needs
 
 returns-2 : tie.Need-returns-2
-unfolding written
+unfolding writePlaced
 returns-2 c =
     let a = c .before .before .before .before .args in
     let h : length (a .bytes .now) < a .write .start + a .write .len = omega arith in
@@ -48,7 +48,7 @@ same-length : tie.Need-same-length
 same-length c = search needs
 
 returns-3 : tie.Need-returns-3
-unfolding written
+unfolding writePlaced
 returns-3 c =
     let a = c .before .before .before .before .before .before .before .before .before .args in
     let h : a .write .start + a .write .len ≤ length (a .bytes .now) = omega arith in

@@ -1,14 +1,18 @@
 -- `judge_message` meets its contract: the queue picks the case of `messageVerdict`.
 use mathlib.Core.Path.{ap, _∙_}
 use borrow.Author.Tests.{eq-eqb, ne-eqb}
-use borrow.Author.Needs.{needs}
-use Rattle.ddp.specs.declared.buffer.Buffer.{Buffer}
+use Rattle.memory.specs.declared.buffer.Buffer.{Buffer}
 use Rattle.rdmap.specs.Message.{messageVerdict, sendVerdict}
+use borrow.Author.Needs.{needs}
 use Rattle.rdmap.proofs.message.judge_message.Statement.{statement}
 use Rattle.rdmap.proofs.message.judge_message.Tie as tie
+use Rattle.rdmap.proofs.message.judge_read.Reads as judge-read-reads
+use Rattle.rdmap.proofs.message.judge_send.Reads as judge-send-reads
+use Rattle.rdmap.proofs.message.judge_terminate.Reads as judge-terminate-reads
+use Rattle.rdmap.proofs.sends.Sends.current.Reads as current-reads
 
-buffer-of-requires : tie.Need-buffer-of-requires
-buffer-of-requires c κs = search needs
+current-requires : tie.Need-current-requires
+current-requires c κs = search needs
 
 judge-send-requires : tie.Need-judge-send-requires
 judge-send-requires c κs = search needs
@@ -19,7 +23,7 @@ returns c =
     let a = c .before .before .before .before .before .args in
     simp (eq-eqb _ _ (c .before .before .if1 .taken))
     (c .judge-send .ensures
-    ∙ ap (λ (b : Buffer). sendVerdict (a .windows) (a .domain) b (a .h) (a .start) (a .end)) (c .before .buffer-of .ensures))
+    ∙ ap (λ (b : Buffer). sendVerdict (a .windows) (a .domain) b (a .h) (a .start) (a .end)) (c .before .current .ensures))
 
 judge-read-requires : tie.Need-judge-read-requires
 judge-read-requires c κs = search needs
@@ -43,7 +47,7 @@ pub judge-message-spec : {M : Type 1} → statement M
 judge-message-spec =
     tie.close
     (tie.spec
-    buffer-of-requires
+    current-requires
     judge-send-requires
     returns
     judge-read-requires

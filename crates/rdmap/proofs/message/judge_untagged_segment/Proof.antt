@@ -47,16 +47,16 @@ unless-refused-requires c κs = search needs
 returns : tie.Need-returns
 returns c =
     let a = c .before .before .before .before .before .before .args in
-    ap (untaggedVerdict (a .windows) (a .domain) (a .s) (a .h) (a .payload .now))
+    ap (untaggedVerdict (a .windows) (a .domain) (a .s .sends) (a .h) (a .payload .now))
     (sym (c .before .refusal .given .1) ∙ judged (c .before .before .before))
 
 returns-2 : tie.Need-returns-2
 returns-2 c =
-    let a = c .before .before .before .before .before .before .before .before .before .before .before .args in
+    let a = c .before .before .before .before .before .before .before .before .before .before .before .before .args in
     simp (c .before .before .judge-control .ensures, c .before .before .before .fits-queue .ensures, c .before .judge-message .ensures)
     at (c .unless-refused .ensures)
-    ∙ ap (untaggedVerdict (a .windows) (a .domain) (a .s) (a .h) (a .payload .now))
-    (sym (c .before .before .before .before .before .before .start .given .1) ∙ judged (c .before .before .before .before .before .before .before .before))
+    ∙ ap (untaggedVerdict (a .windows) (a .domain) (a .s .sends) (a .h) (a .payload .now))
+    (sym (c .before .before .before .before .before .before .before .start .given .1) ∙ judged (c .before .before .before .before .before .before .before .before .before))
 
 pub judge-untagged-segment-spec : {M : Type 1} → statement M
 judge-untagged-segment-spec =

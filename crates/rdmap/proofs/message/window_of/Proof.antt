@@ -3,7 +3,7 @@ use mathlib.Core.Path.{_≡_, sym}
 use native.Mathlib.Omega.{arith}
 use lib.ListN.{List·getD-eq-default, length}
 use borrow.Author.Needs.{needs}
-use Rattle.ddp.specs.Window.{noWindow}
+use Rattle.memory.specs.Window.{noWindow}
 use Rattle.rdmap.proofs.message.window_of.Statement.{statement}
 use Rattle.rdmap.proofs.message.window_of.Tie as tie
 

@@ -1,7 +1,12 @@
--- `run_line` is safe and ends: a line that is not too long lies within its buffer, and its answer within the text.
-use mathlib.Core.Path.{sym}
+-- `run_line` meets its contract: a line that is not too long does what `ask` says of it, and the call that it asks for is made.
+use mathlib.Core.Path.{refl, sym}
+use native.Mathlib.Omega.{arith}
+use lib.ListN.{length, take}
 use lib.Seq.{length-take-le}
 use borrow.Author.Needs.{needs}
+use borrow.Author.Tests.{le-leb, lt-leb}
+use Rattle.request.specs.Request.{requestOf}
+use Rattle.replay.proofs.Lines.{call-made, no-call-made}
 use Rattle.replay.proofs.run.run_line.Statement.{statement}
 use Rattle.replay.proofs.run.run_line.Tie as tie
 
@@ -15,7 +20,7 @@ same-length : tie.Need-same-length
 same-length c = search needs
 
 returns : tie.Need-returns
-returns c = search needs
+returns c = let a = c .before .before .before .before .before .before .before .before .before .before .before .before .before .before .args in rw (lt-leb (a .count) (length (a .line .now)) (omega arith)) (refl, refl)
 
 slice-aggregate-ask : tie.Need-slice-aggregate-ask
 slice-aggregate-ask c = sym (length-take-le _ _ (search needs))
@@ -39,7 +44,13 @@ same-length-5 : tie.Need-same-length-5
 same-length-5 c = search needs
 
 returns-2 : tie.Need-returns-2
-returns-2 c = search needs
+returns-2 c =
+    let a = c .before .before .before .before .before .before .before .before .before .before .before .before .before .before .before .before .before .before .before .before .before .before .before .before .before .before .before .before .before .args in
+    let r = c .before .before .before .before .before .before .before .before .before .before .before .before .before .before .before .before .before .ask in
+    rw (le-leb (a .count) (length (a .line .now)) (omega (arith, c .before .before .before .before .before .before .before .before .before .before .before .before .before .before .before .before .before .before .before .before .before .before .before .if1 .left)))
+    (call-made (a .state) (r .last .1 .1 .0) (a .store .now) (r .last .1 .1 .1 .1 .0) (r .result)
+    (requestOf (a .state .kept) (length (a .bytes .now)) (length (a .store .now)) (take (a .count) (a .line .now)))
+    (r .ensures .1 .1) (c .before .before .before .before .before .before .before .before .if2 .taken) (c .before .before .before .before .make-call .result) (c .before .before .before .before .make-call .last .1 .1 .1 .0) (c .before .before .before .before .make-call .ensures .0) (c .before .before .before .before .make-call .ensures .1))
 
 print-answer-requires : tie.Need-print-answer-requires
 print-answer-requires c κs = search needs
@@ -57,7 +68,13 @@ same-length-9 : tie.Need-same-length-9
 same-length-9 c = search needs
 
 returns-3 : tie.Need-returns-3
-returns-3 c = search needs
+returns-3 c =
+    let a = c .before .before .before .before .before .before .before .before .before .before .before .before .before .before .before .before .before .before .before .before .before .before .before .before .before .args in
+    let r = c .before .before .before .before .before .before .before .before .before .before .before .before .before .ask in
+    rw (le-leb (a .count) (length (a .line .now)) (omega (arith, c .before .before .before .before .before .before .before .before .before .before .before .before .before .before .before .before .before .before .before .if1 .left)))
+    (no-call-made (a .state) (r .last .1 .1 .0) (a .store .now) (r .last .1 .1 .1 .1 .0) (r .result)
+    (requestOf (a .state .kept) (length (a .bytes .now)) (length (a .store .now)) (take (a .count) (a .line .now)))
+    (r .ensures .1 .1) (c .before .before .before .before .if2 .left))
 
 pub run-line-spec : {M : Type 1} → statement M
 run-line-spec =

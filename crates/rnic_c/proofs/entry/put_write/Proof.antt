@@ -1,12 +1,19 @@
--- `put_write` meets its contract: the two tests are those of `partFits`, and the rest is what the domain's `put_write` gives.
-use borrow.Author.Tests.{le-leb, lt-leb}
+-- `put_write` meets its contract: `fits_in` picks the case, and the rest is what the domain's `put_write` gives.
+use mathlib.Core.Path.{sym, _∙_}
+use Rattle.memory.proofs.Laws.{fits-ends}
 use Rattle.rnic_c.specs.Entry.{writtenStore}
 use borrow.Author.Needs.{needs}
 use Rattle.rnic_c.proofs.entry.put_write.Statement.{statement}
 use Rattle.rnic_c.proofs.entry.put_write.Tie as tie
+use Rattle.calls.proofs.words.words.Reads as words-reads
+use Rattle.domain.proofs.write.put_write.Reads as put-write-reads
+use Rattle.memory.proofs.part.fits_in.Reads as fits-in-reads
 
 words-requires : tie.Need-words-requires
 words-requires c κs = search needs
+
+fits-in-requires : tie.Need-fits-in-requires
+fits-in-requires c κs = search needs
 
 cast-start : tie.Need-cast-start
 cast-start c = search needs
@@ -14,19 +21,14 @@ cast-start c = search needs
 cast-end : tie.Need-cast-end
 cast-end c = search needs
 
-returns : tie.Need-returns
-unfolding writtenStore
-returns c = (c .before .before .before .words .ensures, simp (lt-leb _ _ (c .if1 .taken)))
-
-returns-2 : tie.Need-returns-2
-unfolding writtenStore
-returns-2 c = (c .before .before .before .before .words .ensures, simp (le-leb _ _ (c .before .if1 .left), lt-leb _ _ (c .if2 .taken)))
+sub-put-write : tie.Need-sub-put-write
+sub-put-write c = fits-ends _ _ (sym (c .before .before .before .fits-in .ensures) ∙ c .before .before .if1 .taken) .0
 
 part-put-write-start : tie.Need-part-put-write-start
-part-put-write-start c = search needs
+part-put-write-start c = fits-ends _ _ (sym (c .before .before .before .fits-in .ensures) ∙ c .before .before .if1 .taken) .0
 
 part-put-write-end : tie.Need-part-put-write-end
-part-put-write-end c = search needs
+part-put-write-end c = fits-ends _ _ (sym (c .before .before .before .fits-in .ensures) ∙ c .before .before .if1 .taken) .1
 
 put-write-requires : tie.Need-put-write-requires
 put-write-requires c κs = search needs
@@ -34,24 +36,28 @@ put-write-requires c κs = search needs
 same-length : tie.Need-same-length
 same-length c = search needs
 
-returns-3 : tie.Need-returns-3
+returns : tie.Need-returns
 unfolding writtenStore
-returns-3 c = (
-  c .before .before .before .before .before .before .before .before .words .ensures,
-  simp (le-leb _ _ (c .before .before .before .before .before .if1 .left), le-leb _ _ (c .before .before .before .before .if2 .left), c .before .before .put-write .ensures),
-)
+returns c =
+    let fits = sym (c .before .before .before .before .before .before .before .fits-in .ensures) ∙ c .before .before .before .before .before .before .if1 .taken in
+    (c .before .before .before .before .before .before .before .before .words .ensures, simp (fits, c .before .before .put-write .ensures))
+
+returns-2 : tie.Need-returns-2
+unfolding writtenStore
+returns-2 c = (c .before .before .words .ensures, simp (sym (c .before .fits-in .ensures) ∙ c .if1 .left))
 
 pub put-write-spec : {M : Type 1} → statement M
 put-write-spec =
     tie.close
     (tie.spec
     words-requires
+    fits-in-requires
     cast-start
     cast-end
-    returns
-    returns-2
+    sub-put-write
     part-put-write-start
     part-put-write-end
     put-write-requires
     same-length
-    returns-3)
+    returns
+    returns-2)

@@ -5,7 +5,7 @@ use mathlib.Core.Path.{_≡_}
 use lib.ListN.{length, length-map}
 use borrow.Author.Tests.{eq-eqb, ne-eqb}
 use borrow.Author.Needs.{needs}
-use Rattle.ddp.proofs.Laws.{shifted}
+use Rattle.memory.proofs.Laws.{shifted}
 use Rattle.rdmap.specs.Read.{poppedReads, noRead}
 use Rattle.rdmap.proofs.read.Reads.popped.Statement.{statement}
 use Rattle.rdmap.proofs.read.Reads.popped.Tie as tie
@@ -13,6 +13,9 @@ use Rattle.rdmap.proofs.read.Reads.popped.Tie as tie
 returns : tie.Need-returns
 unfolding poppedReads
 returns c = simp (eq-eqb _ _ (c .if1 .taken))
+
+no-read-requires : tie.Need-no-read-requires
+no-read-requires c κs = search needs
 
 array-copy-out-t9 : tie.Need-array-copy-out-t9
 array-copy-out-t9 c = search needs
@@ -41,17 +44,18 @@ sub-t28 c = search needs
 returns-2 : tie.Need-returns-2
 unfolding poppedReads
 returns-2 c =
-    let start = c .before .before .before .before .before .before .before .before .before in
+    let start = c .before .before .before .before .before .before .before .before .before .before in
     let r = start .args .self in
-    let long : length (r .entries) ≡ 8 = simp length-map at (start .good .0 .1 .1 .1 .0 .1 .0 .1) in
-    simp (ne-eqb _ _ (c .before .before .before .before .before .before .before .before .if1 .left))
-    (λ i. record { count = r .count - 1; entries = shifted noRead noRead (r .entries) long i })
+    let long : length (r .entries) ≡ 8 = simp length-map at (start .good .0 .1 .1 .1 .1 .0 .1 .0 .1) in
+    simp (ne-eqb _ _ (c .before .before .before .before .before .before .before .before .before .if1 .left), c .before .before .before .before .before .before .before .no-read .ensures)
+    (λ i. record { msn = r .msn; count = r .count - 1; entries = shifted noRead noRead (r .entries) long i })
 
 pub popped-spec : {M : Type 1} → statement M
 popped-spec =
     tie.close
     (tie.spec
     returns
+    no-read-requires
     array-copy-out-t9
     array-copy-out-t12
     array-copy-out-t15

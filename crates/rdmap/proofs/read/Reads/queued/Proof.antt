@@ -17,9 +17,12 @@ element-set-from-read c = search needs
 add-next : tie.Need-add-next
 add-next c = search needs
 
+next-msn-requires : tie.Need-next-msn-requires
+next-msn-requires c κs = search needs
+
 returns : tie.Need-returns
 unfolding queuedReads
-returns c = simp (lt-ltb _ _ (c .if1 .taken))
+returns c = simp (lt-ltb _ _ (c .before .if1 .taken), c .next-msn .ensures)
 
 returns-2 : tie.Need-returns-2
 unfolding queuedReads
@@ -27,4 +30,4 @@ returns-2 c = simp (le-ltb _ _ (c .if1 .left))
 
 pub queued-spec : {M : Type 1} → statement M
 queued-spec =
-    tie.close (tie.spec cast-read mul-read element-set-from-read add-next returns returns-2)
+    tie.close (tie.spec cast-read mul-read element-set-from-read add-next next-msn-requires returns returns-2)

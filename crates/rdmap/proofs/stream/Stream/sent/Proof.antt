@@ -1,17 +1,20 @@
--- `sent` meets its contract: the number and the buffers are what the callees ensure.
+-- `sent` meets its contract: the queue is what its own method ensures.
+use mathlib.Core.Path.{ap, _∙_}
+use Rattle.rdmap.specs.Stream.{withSends}
 use borrow.Author.Needs.{needs}
-use Rattle.rdmap.specs.Stream.{sendState}
 use Rattle.rdmap.proofs.stream.Stream.sent.Statement.{statement}
 use Rattle.rdmap.proofs.stream.Stream.sent.Tie as tie
+use Rattle.rdmap.proofs.sends.Sends.sent.Reads as sent-reads
+use Rattle.rdmap.proofs.stream.Stream.with_sends.Reads as with-sends-reads
 
-next-msn-requires : tie.Need-next-msn-requires
-next-msn-requires c κs = search needs
+sent-requires : tie.Need-sent-requires
+sent-requires c κs = search needs
 
-popped-requires : tie.Need-popped-requires
-popped-requires c κs = search needs
+with-sends-requires : tie.Need-with-sends-requires
+with-sends-requires c κs = search needs
 
 returns : tie.Need-returns
-returns c = λ i. sendState (c .before .before .before .args .self) ((c .before .next-msn .ensures) i) 0 0 ((c .popped .ensures) i)
+returns c = c .with-sends .ensures ∙ ap (withSends (c .before .before .before .args .self)) (c .before .sent .ensures)
 
 pub sent-spec : {M : Type 1} → statement M
-sent-spec = tie.close (tie.spec next-msn-requires popped-requires returns)
+sent-spec = tie.close (tie.spec sent-requires with-sends-requires returns)

@@ -1,0 +1,110 @@
+-- What the device's definitions say of a call whose number is in range, as one on its owner's entry, and that a call out of range
+-- changes nothing.
+use Prim.Native.Nat.{ℕ, _/_, _%_}
+use mathlib.Core.Path.{_≡_, refl}
+use mathlib.Core.Bool.{Bool, true, false}
+use mathlib.Core.List.{List}
+use lib.ListN.{length}
+use lib.Dec.{leb, eqb}
+use Rattle.wire.specs.Wire.{pick}
+use Rattle.memory.specs.Window.{liveCount, lowestFree}
+use Rattle.domain.specs.Domain.{domainOpened, domainClosed, domainPosted, domainTaken, domainRegistered, domainDropped, domainReceived, domainReceivedBytes}
+use Rattle.domain.specs.declared.Answer.the-variants.{Refused}
+use Rattle.memory.specs.Part.{partFits}
+use Rattle.rnic.specs.Rnic.{domainAt, withDomain, bytesOf, withBytes, rnicOpened, rnicClosed, rnicPosted, rnicTaken, rnicRegistered, rnicDropped, rnicReceived, rnicReceivedStore, receivedOwned, receivedOwnedStore, rnicLive, rnicFree}
+use Rattle.rnic.specs.declared.Rnic.{Rnic}
+use Rattle.rnic.specs.declared.Count.the-variants.{Counted}
+
+module _ (b : Rnic) (n : ℕ) where
+  pub opened-in : (crc : Bool) → leb n 15 ≡ true → rnicOpened b n crc ≡ record { outcome = domainOpened (domainAt b (n / 4)) (n % 4) crc .outcome; rnic = withDomain b (n / 4) (domainOpened (domainAt b (n / 4)) (n % 4) crc .domain) }
+  unfolding rnicOpened
+  opened-in crc e = simp e
+
+  pub opened-out : (crc : Bool) → leb n 15 ≡ false → rnicOpened b n crc .rnic ≡ b
+  unfolding rnicOpened
+  opened-out crc e = simp e
+
+  pub closed-in : leb n 15 ≡ true → rnicClosed b n ≡ record { answer = domainClosed (domainAt b (n / 4)) (n % 4) .answer; rnic = withDomain b (n / 4) (domainClosed (domainAt b (n / 4)) (n % 4) .domain) }
+  unfolding rnicClosed
+  closed-in e = simp e
+
+  pub closed-out : leb n 15 ≡ false → rnicClosed b n .rnic ≡ b
+  unfolding rnicClosed
+  closed-out e = simp e
+
+  pub posted-in : (start len : ℕ) → leb n 15 ≡ true → rnicPosted b n start len ≡ record { outcome = domainPosted (domainAt b (n / 4)) (n % 4) start len .outcome; rnic = withDomain b (n / 4) (domainPosted (domainAt b (n / 4)) (n % 4) start len .domain) }
+  unfolding rnicPosted
+  posted-in start len e = simp e
+
+  pub posted-out : (start len : ℕ) → leb n 15 ≡ false → rnicPosted b n start len .rnic ≡ b
+  unfolding rnicPosted
+  posted-out start len e = simp e
+
+  pub taken-in : leb n 15 ≡ true → rnicTaken b n ≡ record { answer = domainTaken (domainAt b (n / 4)) (n % 4) .answer; rnic = withDomain b (n / 4) (domainTaken (domainAt b (n / 4)) (n % 4) .domain) }
+  unfolding rnicTaken
+  taken-in e = simp e
+
+  pub taken-out : leb n 15 ≡ false → rnicTaken b n .rnic ≡ b
+  unfolding rnicTaken
+  taken-out e = simp e
+
+  pub registered-in :
+      (key base len place rights : ℕ) → leb n 63 ≡ true →
+      rnicRegistered b n key base len place rights ≡ record { outcome = domainRegistered (domainAt b (n / 16)) (n % 16) key base len place rights .outcome; rnic = withDomain b (n / 16) (domainRegistered (domainAt b (n / 16)) (n % 16) key base len place rights .domain) }
+  unfolding rnicRegistered
+  registered-in key base len place rights e = simp e
+
+  pub registered-out : (key base len place rights : ℕ) → leb n 63 ≡ false → rnicRegistered b n key base len place rights .rnic ≡ b
+  unfolding rnicRegistered
+  registered-out key base len place rights e = simp e
+
+  pub dropped-in : leb n 63 ≡ true → rnicDropped b n ≡ record { outcome = domainDropped (domainAt b (n / 16)) (n % 16) .outcome; rnic = withDomain b (n / 16) (domainDropped (domainAt b (n / 16)) (n % 16) .domain) }
+  unfolding rnicDropped
+  dropped-in e = simp e
+
+  pub dropped-out : leb n 63 ≡ false → rnicDropped b n .rnic ≡ b
+  unfolding rnicDropped
+  dropped-out e = simp e
+
+  pub live-in : leb n 3 ≡ true → rnicLive b n ≡ Counted (liveCount (domainAt b n .windows))
+  unfolding rnicLive
+  live-in e = simp e
+
+  pub free-in : leb n 3 ≡ true → rnicFree b n ≡ Counted (lowestFree (domainAt b n .windows))
+  unfolding rnicFree
+  free-in e = simp e
+
+  module _ (input : List ℕ) where
+    pub received-in :
+        (k : ℕ) → leb n 15 ≡ true → eqb k (b .len) ≡ true → partFits (domainAt b (n / 4) .part) k ≡ true →
+        rnicReceived b k n input ≡ record { answer = domainReceived (domainAt b (n / 4)) (n / 4) (n % 4) input .answer; rnic = withDomain b (n / 4) (domainReceived (domainAt b (n / 4)) (n / 4) (n % 4) input .domain) }
+    unfolding rnicReceived receivedOwned
+    received-in k e₁ e₂ e₃ = simp (e₁, e₂, e₃)
+
+    -- a slice of another length is refused
+    pub received-other : (k : ℕ) → leb n 15 ≡ true → eqb k (b .len) ≡ false → rnicReceived b k n input ≡ record { answer = Refused 2; rnic = b }
+    unfolding rnicReceived
+    received-other k e₁ e₂ = simp (e₁, e₂)
+
+    pub received-out : (k : ℕ) → leb n 15 ≡ false → rnicReceived b k n input .rnic ≡ b
+    unfolding rnicReceived
+    received-out k e = simp e
+
+    pub store-in :
+        (mem : List ℕ) → leb n 15 ≡ true → eqb (length mem) (b .len) ≡ true → partFits (domainAt b (n / 4) .part) (length mem) ≡ true →
+        rnicReceivedStore b n input mem ≡ withBytes (domainAt b (n / 4)) mem (domainReceivedBytes (domainAt b (n / 4)) (n / 4) (n % 4) input (bytesOf (domainAt b (n / 4)) mem))
+    unfolding rnicReceivedStore receivedOwnedStore
+    store-in mem e₁ e₂ e₃ = simp (e₁, e₂, e₃)
+
+    -- and it stays
+    pub store-other : (mem : List ℕ) → eqb (length mem) (b .len) ≡ false → rnicReceivedStore b n input mem ≡ mem
+    unfolding rnicReceivedStore
+    store-other mem e = simp e (go (leb n 15))
+      where
+        go : (t : Bool) → pick t mem mem ≡ mem
+        go true = refl
+        go false = refl
+
+    pub store-out : (mem : List ℕ) → leb n 15 ≡ false → rnicReceivedStore b n input mem ≡ mem
+    unfolding rnicReceivedStore
+    store-out mem e = simp e

@@ -1,0 +1,3 @@
+pub mod Part
+pub mod Window
+pub mod Buffer

@@ -1,0 +1,266 @@
+// Windows: the tagged buffers of a domain, sixteen by value, one entry changed at a time.
+ghost use mathlib.Core.Path.{_≡_};
+ghost use Prim.Native.Nat.{_<_};
+ghost use Rattle.memory.specs.Window.{inRange, windowFits, refusing, entering, registered, dropped, liveCount, lowestFree, named, slotNamed, foundIn, found, wraps, spanned};
+use crate::part::Outcome;
+use crate::part::Part;
+use crate::part::inside;
+use crate::refusal::BAD_PLACE;
+use crate::refusal::KEY_AGAIN;
+use crate::refusal::OUT_OF_RANGE;
+use crate::refusal::WINDOW_LIVE;
+use crate::refusal::WINDOW_NOT_LIVE;
+
+// One window. A dead one keeps its last key (0: it never had one), and zeros beside.
+#[repr(C)]
+pub struct Window {
+    pub live: bool,
+    pub key: u8,
+    pub rights: u8,
+    pub place: u32,
+    pub len: u32,
+    pub base: u64,
+}
+
+// What a call answers, and the domain's windows after it.
+pub struct Registered {
+    pub outcome: Outcome,
+    pub windows: [Window; 16],
+}
+
+// What an STag names for a domain.
+pub enum Found {
+    Slot(usize),
+    Foreign,
+    Missing,
+}
+
+// Where some bytes from a tagged offset lie: at a place of the store, past the end of all offsets, or not in the window.
+pub enum Span {
+    Inside(u64),
+    Wrap,
+    Outside,
+}
+
+// Whether slot, key and rights are in their ranges.
+fn in_range(slot: u64, key: u64, rights: u64) -> bool
+    ensures { λ r. ⌜ r ≡ inRange slot key rights ⌝ }
+{
+    if 15 < slot {
+        return false;
+    }
+    if key == 0 {
+        return false;
+    }
+    if 255 < key {
+        return false;
+    }
+    if rights == 0 {
+        return false;
+    }
+    rights <= 3
+}
+
+// Whether a window lies in the part, and ends at an offset that there is.
+fn window_fits(part: Part, place: u64, base: u64, len: u64) -> bool
+    ensures { λ r. ⌜ r ≡ windowFits part place base len ⌝ }
+{
+    if inside(part, place, len) {
+        return len <= u64::MAX - base;
+    }
+    false
+}
+
+// A refusal: the windows are as they were.
+fn refused(windows: [Window; 16], number: u8) -> Registered
+    ensures { λ r. ⌜ r ≡ refusing windows number ⌝ }
+{
+    Registered {
+        outcome: Outcome::Refused(number),
+        windows,
+    }
+}
+
+// Done: the windows with one entry changed.
+fn entered(windows: [Window; 16], slot: usize, w: Window) -> Registered
+    requires { ⌜ slot < 16 ⌝ }
+    ensures { λ r. ⌜ r ≡ entering windows slot w ⌝ }
+{
+    let mut next = windows;
+    next[slot] = w;
+    Registered {
+        outcome: Outcome::Done,
+        windows: next,
+    }
+}
+
+// Registers a window of a slot.
+pub fn register(
+    windows: [Window; 16],
+    part: Part,
+    slot: u64,
+    key: u64,
+    base: u64,
+    len: u64,
+    place: u64,
+    rights: u64,
+) -> Registered
+    ensures { λ r. ⌜ r ≡ registered windows part slot key base len place rights ⌝ }
+{
+    if in_range(slot, key, rights) {
+        let i = slot as usize;
+        let old = windows[i];
+        if old.live {
+            return refused(windows, WINDOW_LIVE);
+        }
+        if key == old.key as u64 {
+            return refused(windows, KEY_AGAIN);
+        }
+        if window_fits(part, place, base, len) {
+            let new = Window {
+                live: true,
+                key: key as u8,
+                rights: rights as u8,
+                place: place as u32,
+                len: len as u32,
+                base,
+            };
+            return entered(windows, i, new);
+        }
+        return refused(windows, BAD_PLACE);
+    }
+    refused(windows, OUT_OF_RANGE)
+}
+
+// Drops the window of a slot: it is dead, and its key is kept.
+pub fn drop_window(windows: [Window; 16], slot: u64) -> Registered
+    ensures { λ r. ⌜ r ≡ dropped windows slot ⌝ }
+{
+    if 15 < slot {
+        return refused(windows, OUT_OF_RANGE);
+    }
+    let i = slot as usize;
+    let old = windows[i];
+    if old.live {
+        let dead = Window {
+            live: false,
+            key: old.key,
+            rights: 0,
+            place: 0,
+            len: 0,
+            base: 0,
+        };
+        return entered(windows, i, dead);
+    }
+    refused(windows, WINDOW_NOT_LIVE)
+}
+
+// How many windows are live.
+pub fn live_count(windows: [Window; 16]) -> u32
+    ensures { λ r. ⌜ r ≡ liveCount windows ⌝ }
+{
+    let mut n: u32 = 0;
+    let mut i: usize = 0;
+    while i < 16 {
+        let w = windows[i];
+        if w.live {
+            n += 1;
+        }
+        i += 1;
+    }
+    n
+}
+
+// The lowest slot whose window is dead, 16 where none is.
+pub fn lowest_free(windows: [Window; 16]) -> u32
+    ensures { λ r. ⌜ r ≡ lowestFree windows ⌝ }
+{
+    let mut i: u32 = 0;
+    while i < 16 {
+        let w = windows[i as usize];
+        if w.live {
+            i += 1;
+        } else {
+            return i;
+        }
+    }
+    i
+}
+
+// Whether a window is live and has the key.
+fn is_named(w: Window, key: u32) -> bool
+    ensures { λ r. ⌜ r ≡ named w key ⌝ }
+{
+    let own = w.key as u32;
+    if w.live {
+        return key == own;
+    }
+    false
+}
+
+// The slot of the window that an STag names, in its domain.
+pub fn slot_named(stag: u32) -> usize
+    ensures { λ r. ⌜ r ≡ slotNamed stag ⌝ }
+{
+    (stag / 256 % 16) as usize
+}
+
+// What an STag names for a domain, whose window in the slot that it names is w. Whose it is comes
+// before whether it is live.
+pub fn find_in(w: Window, domain: u64, stag: u32) -> Found
+    ensures { λ r. ⌜ r ≡ foundIn w domain stag ⌝ }
+{
+    let number = stag / 256;
+    if number < 64 {
+        let ours = (number / 16) as u64 == domain;
+        let live = is_named(w, stag % 256);
+        if ours {
+            if live {
+                return Found::Slot(slot_named(stag));
+            }
+            return Found::Missing;
+        }
+        return Found::Foreign;
+    }
+    Found::Missing
+}
+
+// The window of a domain that an STag names.
+pub fn find(windows: [Window; 16], domain: u64, stag: u32) -> Found
+    ensures { λ r. ⌜ r ≡ found windows domain stag ⌝ }
+{
+    let slot = slot_named(stag);
+    find_in(windows[slot], domain, stag)
+}
+
+// Whether to + len is above 2^64.
+fn wraps_around(to: u64, len: u64) -> bool
+    ensures { λ r. ⌜ r ≡ wraps to len ⌝ }
+{
+    if len == 0 {
+        return false;
+    }
+    u64::MAX - to < len - 1
+}
+
+// Where the len bytes from the tagged offset to lie.
+pub fn span_of(w: Window, to: u64, len: u64) -> Span
+    ensures { λ r. ⌜ r ≡ spanned w to len ⌝ }
+{
+    if wraps_around(to, len) {
+        return Span::Wrap;
+    }
+    let base = w.base;
+    if to < base {
+        return Span::Outside;
+    }
+    let offset = to - base;
+    let size = w.len as u64;
+    if size < offset {
+        return Span::Outside;
+    }
+    if size - offset < len {
+        return Span::Outside;
+    }
+    Span::Inside(w.place as u64 + offset)
+}

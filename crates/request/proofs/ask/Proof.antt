@@ -1,0 +1,142 @@
+-- `ask` meets its contract: a line that is silent, a command on frames, or what `ask_device` says of its words.
+use mathlib.Core.Path.{_≡_, refl, sym, ap, subst, _∙_}
+use native.Mathlib.Omega.{arith}
+use borrow.Author.Needs.{needs}
+use lib.ListN.{length}
+use Rattle.command.specs.Args.{wordOf}
+use Rattle.command.specs.Frames.{isFrame}
+use Rattle.command.proofs.Listed.{words-count}
+use Rattle.command.proofs.Read.{read-as}
+use Rattle.request.specs.Request.{Request, Says, askDevice}
+use Rattle.request.specs.declared.Asked.{Asked}
+use Rattle.request.proofs.Asking.{true-false, says-no-more, comment-text, empty-text, not-silent, frame-text, device-line}
+use Rattle.request.proofs.ask.Statement.{statement}
+use Rattle.request.proofs.ask.Tie as tie
+
+is-comment-requires : tie.Need-is-comment-requires
+is-comment-requires c κs = search needs
+
+answered-requires : tie.Need-answered-requires
+answered-requires c κs = search needs
+
+returns : tie.Need-returns
+returns c =
+    let a = c .before .before .before .before .before .before .before .before .args in
+    let n = ap (λ (x : Asked). x .count) (c .answered .ensures) in (
+      omega (arith, n),
+      (
+        (λ _. n),
+        says-no-more _ (comment-text (a .kept) (length (a .bytes .now)) (length (a .store .now)) (a .line .now) (sym (c .before .before .is-comment .ensures) ∙ c .before .if1 .taken))
+            (c .answered .result) 0 (a .bytes .now) (a .store .now) (c .answered .ensures),
+      ),
+    )
+
+split-requires : tie.Need-split-requires
+split-requires c κs = search needs
+
+answered-requires-2 : tie.Need-answered-requires-2
+answered-requires-2 c κs = search needs
+
+returns-2 : tie.Need-returns-2
+returns-2 c =
+    let a = c .before .before .before .before .before .before .before .before .before .before .before .args in
+    let n = ap (λ (x : Asked). x .count) (c .answered2 .ensures) in (
+      omega (arith, n),
+      (
+        (λ _. n),
+        says-no-more _ (empty-text (a .kept) (length (a .bytes .now)) (length (a .store .now)) (a .line .now) (sym (c .before .before .before .before .before .is-comment .ensures) ∙ c .before .before .before .before .if1 .left)
+            (ap length (sym (c .before .before .before .split .ensures)) ∙ words-count (a .line .now) (c .before .before .before .split .result) ∙ c .before .if2 .taken))
+            (c .answered2 .result) 0 (a .bytes .now) (a .store .now) (c .answered2 .ensures),
+      ),
+    )
+
+word-requires : tie.Need-word-requires
+word-requires c κs = search needs
+
+is-frame-requires : tie.Need-is-frame-requires
+is-frame-requires c κs = search needs
+
+run-requires : tie.Need-run-requires
+run-requires c κs = search needs
+
+answered-requires-3 : tie.Need-answered-requires-3
+answered-requires-3 c κs = search needs
+
+same-length : tie.Need-same-length
+same-length c = search needs
+
+same-length-2 : tie.Need-same-length-2
+same-length-2 c = search needs
+
+same-length-3 : tie.Need-same-length-3
+same-length-3 c = search needs
+
+returns-3 : tie.Need-returns-3
+returns-3 c =
+    let a = c .before .before .before .before .before .before .before .before .before .before .before .before .before .before .before .before .before .before .before .before .before .before .before .before .args in
+    let e = c .before .before .before .before .before .before .before .before .before .before .before .before .before .before .before .before .split .ensures in
+    let quiet = not-silent (a .kept) (length (a .bytes .now)) (length (a .store .now)) (a .line .now) (sym (c .before .before .before .before .before .before .before .before .before .before .before .before .before .before .before .before .before .before .is-comment .ensures) ∙ c .before .before .before .before .before .before .before .before .before .before .before .before .before .before .before .before .before .if1 .left)
+    (λ z. c .before .before .before .before .before .before .before .before .before .before .before .before .before .before .if2 .left (sym (words-count (a .line .now) (c .before .before .before .before .before .before .before .before .before .before .before .before .before .before .before .before .split .result)) ∙ ap length e ∙ z)) in (
+      omega (arith, ap (λ (x : Asked). x .count) (c .answered3 .ensures), c .before .before .before .before .before .before .before .run .ensures),
+      (
+        (λ s. true-false (sym s ∙ quiet)),
+        says-no-more _ (frame-text (a .kept) (length (a .bytes .now)) (length (a .store .now)) (a .line .now) quiet
+            (read-as isFrame (c .before .before .before .before .before .before .before .before .before .before .before .before .before .word .ensures ∙ ap (λ l. wordOf l 0) e) (c .before .before .before .before .before .before .before .before .before .before .before .before .is-frame .ensures) (c .before .before .before .before .before .before .before .before .before .before .before .if3 .taken)))
+            (c .answered3 .result) (c .before .before .before .before .before .before .before .run .result) _ (a .store .now) (c .answered3 .ensures),
+      ),
+    )
+
+ask-device-requires : tie.Need-ask-device-requires
+ask-device-requires c κs = search needs
+
+same-length-4 : tie.Need-same-length-4
+same-length-4 c = search needs
+
+same-length-5 : tie.Need-same-length-5
+same-length-5 c = search needs
+
+same-length-6 : tie.Need-same-length-6
+same-length-6 c = search needs
+
+returns-4 : tie.Need-returns-4
+returns-4 c =
+    let a = c .before .before .before .before .before .before .before .before .before .before .before .before .before .before .before .before .before .before .before .before .before .before .before .args in
+    let room = length (a .bytes .now) in
+    let size = length (a .store .now) in
+    let e = c .before .before .before .before .before .before .before .before .before .before .before .before .before .before .before .split .ensures in
+    let quiet = not-silent (a .kept) room size (a .line .now) (sym (c .before .before .before .before .before .before .before .before .before .before .before .before .before .before .before .before .before .is-comment .ensures) ∙ c .before .before .before .before .before .before .before .before .before .before .before .before .before .before .before .before .if1 .left)
+    (λ z. c .before .before .before .before .before .before .before .before .before .before .before .before .before .if2 .left (sym (words-count (a .line .now) (c .before .before .before .before .before .before .before .before .before .before .before .before .before .before .before .split .result)) ∙ ap length e ∙ z)) in
+    let r = c .before .before .before .before .before .before .ask-device in (
+      omega (arith, r .ensures .0),
+      (
+        (λ s. true-false (sym s ∙ quiet)),
+        subst (λ (q : Request). Says q (r .result) (r .last .1 .1 .1 .0) (a .store .now) (r .last .1 .1 .1 .1 .0))
+            (ap (λ l. askDevice (a .kept) room size l) e ∙ device-line (a .kept) room size (a .line .now) quiet
+            (read-as isFrame (c .before .before .before .before .before .before .before .before .before .before .before .before .word .ensures ∙ ap (λ l. wordOf l 0) e) (c .before .before .before .before .before .before .before .before .before .before .before .is-frame .ensures) (c .before .before .before .before .before .before .before .before .before .before .if3 .left)))
+            (r .ensures .1),
+      ),
+    )
+
+pub ask-spec : {M : Type 1} → statement M
+ask-spec =
+    tie.close
+    (tie.spec
+    is-comment-requires
+    answered-requires
+    returns
+    split-requires
+    answered-requires-2
+    returns-2
+    word-requires
+    is-frame-requires
+    run-requires
+    answered-requires-3
+    same-length
+    same-length-2
+    same-length-3
+    returns-3
+    ask-device-requires
+    same-length-4
+    same-length-5
+    same-length-6
+    returns-4)
