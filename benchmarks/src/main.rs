@@ -2,6 +2,7 @@
 //!
 //! Nothing here is a test's verdict: the program fails only where the two receivers answer differently.
 
+mod calls;
 mod crc;
 mod growth;
 mod measure;
@@ -25,5 +26,6 @@ fn main() {
     );
     crc::write();
     receive::write();
+    calls::write();
     growth::write();
 }

@@ -17,6 +17,14 @@ pub trait Receiver {
     fn register(&mut self, window: u64, key: u64, base: u64, length: u64, place: u64) -> bool;
     /// Posts a buffer.
     fn post(&mut self, stream: u64, start: u64, length: u64) -> bool;
+    /// Drops a window.
+    fn drop_window(&mut self, window: u64) -> bool;
+    /// Takes a read.
+    fn take(&mut self, stream: u64) -> bool;
+    /// Counts a domain's live windows.
+    fn live(&mut self, domain: u64) -> Option<u64>;
+    /// Gives a domain's lowest free slot.
+    fn free(&mut self, domain: u64) -> Option<u64>;
     /// Takes an FPDU and gives its total and whether a Send is complete, or nothing where it is not taken.
     fn receive(&mut self, store: &mut [u8], stream: u64, bytes: &[u8]) -> Option<(usize, bool)>;
 }
@@ -58,6 +66,22 @@ impl Receiver for Ours {
         host::Device::post(self, stream, start, length).is_ok()
     }
 
+    fn drop_window(&mut self, window: u64) -> bool {
+        host::Device::drop_window(self, window).is_ok()
+    }
+
+    fn take(&mut self, stream: u64) -> bool {
+        host::Device::take(self, stream).is_ok()
+    }
+
+    fn live(&mut self, domain: u64) -> Option<u64> {
+        host::Device::live_count(self, domain).ok().map(u64::from)
+    }
+
+    fn free(&mut self, domain: u64) -> Option<u64> {
+        host::Device::lowest_free(self, domain).ok().map(u64::from)
+    }
+
     fn receive(&mut self, store: &mut [u8], stream: u64, bytes: &[u8]) -> Option<(usize, bool)> {
         match host::Device::receive(self, store, stream, bytes) {
             Ok(host::Received::Taken { total, event }) => {
@@ -92,6 +116,22 @@ impl Receiver for Second {
 
     fn post(&mut self, stream: u64, start: u64, length: u64) -> bool {
         Second::post(self, stream, start, length).is_ok()
+    }
+
+    fn drop_window(&mut self, window: u64) -> bool {
+        Second::drop_window(self, window).is_ok()
+    }
+
+    fn take(&mut self, stream: u64) -> bool {
+        Second::take_read(self, stream).is_ok()
+    }
+
+    fn live(&mut self, domain: u64) -> Option<u64> {
+        Second::live(self, domain).ok().map(|count| count as u64)
+    }
+
+    fn free(&mut self, domain: u64) -> Option<u64> {
+        Second::free(self, domain).ok().map(|slot| slot as u64)
     }
 
     fn receive(&mut self, store: &mut [u8], stream: u64, bytes: &[u8]) -> Option<(usize, bool)> {

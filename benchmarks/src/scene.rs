@@ -17,9 +17,9 @@ const ROOM: u64 = 2048;
 /// Bytes of each of the other domains, and of their windows and buffers.
 const OTHER: u64 = 256;
 /// The tagged offset at which each window starts.
-const BASE: u64 = 4096;
+pub const BASE: u64 = 4096;
 /// The key of each window.
-const KEY: u64 = 5;
+pub const KEY: u64 = 5;
 
 /// The kinds of messages that are timed.
 #[derive(Clone, Copy, Debug, PartialEq, Eq)]
