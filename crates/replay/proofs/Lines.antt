@@ -35,12 +35,11 @@ module _ (s : State) (buffer store after : List ℕ) (r : Asked) where
       (_≡_ {A = State} (record { kept = r .kept; rnic = d }) (stateAfter s q store)) × (mem ≡ storeThen s q store)
   call-made (call number numbers input lent kept) w t d mem e f =
       let i : take (min (r .size) (length buffer)) buffer ≡ input = take-min (r .size) buffer ∙ w .input in
-      let a : r ≡ callBy number numbers (length input) lent kept = w .asked in
-      (
+      let a : r ≡ callBy number numbers (length input) lent kept = w .asked in (
         ap (λ (x : Rnic). record { kept = r .kept; rnic = x }) e
-        ∙ (λ z. record { kept = a z .kept; rnic = called (s .rnic) (min (a z .lent) (length (w .rest z))) (a z .number) (a z .numbers) (i z) .rnic }),
+            ∙ (λ z. record { kept = a z .kept; rnic = called (s .rnic) (min (a z .lent) (length (w .rest z))) (a z .number) (a z .numbers) (i z) .rnic }),
         f
-        ∙ (λ z. calledStore (s .rnic) (a z .number) (a z .numbers) (i z) (take (min (a z .lent) (length (w .rest z))) (w .rest z)) ++ drop (min (a z .lent) (length (w .rest z))) (w .rest z)),
+            ∙ (λ z. calledStore (s .rnic) (a z .number) (a z .numbers) (i z) (take (min (a z .lent) (length (w .rest z))) (w .rest z)) ++ drop (min (a z .lent) (length (w .rest z))) (w .rest z)),
       )
   call-made (fill start bytes) w t d mem e f = absurd (false≢true (sym (ap (λ (x : Asked). x .call) (w .asked)) ∙ t))
   call-made text w t d mem e f = absurd (false≢true (sym (ap (λ (x : Asked). x .call) (w .asked)) ∙ t))

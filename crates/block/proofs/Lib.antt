@@ -1,0 +1,9 @@
+pub mod Packing
+pub mod Lists
+pub mod Back
+pub mod Outside
+pub mod Exchanged
+pub mod Stored
+pub mod Streams
+pub mod Zeros
+pub mod Opened

@@ -1,0 +1,29 @@
+-- Where each group of the device's records stands in the block of words. src/layout.rt has the same numbers.
+use Prim.Native.Nat.{ℕ, _+_, _*_}
+
+-- the length of the store, then four domains of 233 words
+abbrev pub blockWords : ℕ
+blockWords = 933
+
+abbrev pub domainOffset : ℕ → ℕ
+domainOffset d = 1 + d * 233
+
+-- a domain: its part, sixteen windows of 3 words, four streams of 46 words
+abbrev pub windowOffset : ℕ → ℕ → ℕ
+windowOffset d i = domainOffset d + 1 + i * 3
+
+abbrev pub streamOffset : ℕ → ℕ → ℕ
+streamOffset d j = domainOffset d + 49 + j * 46
+
+-- a stream: its phase, its framing, its terminates, its sends in 10 words and its reads in 33
+abbrev pub framingOffset : ℕ → ℕ → ℕ
+framingOffset d j = streamOffset d j + 1
+
+abbrev pub terminatesOffset : ℕ → ℕ → ℕ
+terminatesOffset d j = streamOffset d j + 2
+
+abbrev pub sendsOffset : ℕ → ℕ → ℕ
+sendsOffset d j = streamOffset d j + 3
+
+abbrev pub readsOffset : ℕ → ℕ → ℕ
+readsOffset d j = streamOffset d j + 13

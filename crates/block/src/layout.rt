@@ -1,0 +1,57 @@
+// Where each group of the device's records stands in the block. specs/Layout.antt has the same numbers.
+ghost use mathlib.Core.Path.{_≡_};
+ghost use Prim.Native.Nat.{_<_};
+ghost use Rattle.block.specs.Layout.{domainOffset, windowOffset, streamOffset};
+
+// How many words hold a device: the length of the store, then four domains.
+pub const BLOCK_WORDS: usize = 933;
+
+const DOMAINS: usize = 1;
+
+const DOMAIN_WORDS: usize = 233;
+
+// In a domain: its part in one word, sixteen windows, four streams.
+const WINDOWS: usize = 1;
+
+pub const WINDOW_WORDS: usize = 3;
+
+const STREAMS: usize = 49;
+
+const STREAM_WORDS: usize = 46;
+
+// In a stream: its phase in one word, then the other groups.
+pub const FRAMING: usize = 1;
+
+pub const TERMINATES: usize = 2;
+
+pub const SENDS: usize = 3;
+
+pub const SENDS_WORDS: usize = 10;
+
+pub const READS: usize = 13;
+
+pub const READS_WORDS: usize = 33;
+
+// Where a domain stands.
+pub fn domain_offset(domain: usize) -> usize
+    requires { ⌜ domain < 4 ⌝ }
+    ensures { λ r. ⌜ r ≡ domainOffset domain ⌝ }
+{
+    DOMAINS + domain * DOMAIN_WORDS
+}
+
+// Where the window of a domain's slot stands.
+pub fn window_offset(domain: usize, slot: usize) -> usize
+    requires { ⌜ (domain < 4) × (slot < 16) ⌝ }
+    ensures { λ r. ⌜ r ≡ windowOffset domain slot ⌝ }
+{
+    domain_offset(domain) + WINDOWS + slot * WINDOW_WORDS
+}
+
+// Where the stream of a domain's slot stands.
+pub fn stream_offset(domain: usize, slot: usize) -> usize
+    requires { ⌜ (domain < 4) × (slot < 4) ⌝ }
+    ensures { λ r. ⌜ r ≡ streamOffset domain slot ⌝ }
+{
+    domain_offset(domain) + STREAMS + slot * STREAM_WORDS
+}
