@@ -2,11 +2,19 @@
  *
  * Link with librnic_c.a, which `rt staticlib rnic_c` writes. Each function is proved to do what the device's call does by
  * value (crates/rnic_c): the device, the answer's eight words and the whole store after it. There is no state besides
- * `struct rnic`, no allocation and no I/O; a device may be copied, and moved to another place, as plain bytes.
+ * `struct rnic`, no allocation and no I/O.
+ *
+ * A device is a block of words. Any words are a device, so that no call can be made on a wrong one: every call answers
+ * whatever the block holds. All zeros is the device that a refused opening leaves: for a store of no bytes, with no window
+ * live and no stream open. A call reads what it needs of the block and writes back what it changed, and no word beside it.
+ *
+ * A device can be copied, moved, saved and read back as its words, and goes on as it was. From zeros, or from an opening on,
+ * its words turn on the calls alone: two such devices are the same where their words are the same, so that memcmp compares
+ * them. Words that no call made may be other words of the same device.
  *
  * The caller owes what a Rust reference means: the device, the store, the bytes and the answer do not overlap (the
- * arguments and the bytes may), each pointer is good for its length, none is null, and the device was opened. A slice of no
- * bytes takes any pointer but null. */
+ * arguments and the bytes may), each pointer is good for its length, and none is null. A slice of no bytes takes any pointer
+ * but null. */
 #ifndef RNIC_H
 #define RNIC_H
 
@@ -15,19 +23,21 @@
 
 #ifdef __cplusplus
 extern "C" {
-#define RNIC_ALIGNAS alignas
-#else
-#define RNIC_ALIGNAS _Alignas
 #endif
 
-/* The size and the alignment of a device; include/rnic_check.c checks both against the library. */
-#define RNIC_C_SIZE 7336
-#define RNIC_C_ALIGN 8
+/* How many words a device has. */
+#define RNIC_C_DEVICE_WORDS 933
 
-/* A device: the length of its store and four domains, laid out as C does. Its fields are nobody's business. */
+/* A device. What each word means is nobody's business. */
 struct rnic {
-    RNIC_ALIGNAS(RNIC_C_ALIGN) unsigned char opaque[RNIC_C_SIZE];
+    uint64_t words[RNIC_C_DEVICE_WORDS];
 };
+
+/* The most bytes of stack that each function takes, with its return address and the arguments that go by the stack: measured
+ * over random calls of every kind, of the library as the kit compiles it for x86-64. */
+#define RNIC_C_CALL_STACK 4096
+#define RNIC_C_RECEIVE_STACK 4096
+#define RNIC_C_CRC32C_STACK 2048
 
 /* How many numbers a call takes, and how many words its answer has. */
 #define RNIC_C_ARGUMENTS 9
@@ -63,7 +73,7 @@ enum rnic_answer {
     RNIC_ENDED = 10             /* a refusal of the peer's bytes, which ended the stream: number, layer, type, code */
 };
 
-/* The call of a number. RNIC_OPEN makes *device anew, whatever bytes it held. */
+/* The call of a number. RNIC_OPEN makes *device anew, whatever words it held. */
 void rnic_c_call(struct rnic *device, uint8_t *store, size_t store_length, uint64_t number,
                  const uint64_t a[RNIC_C_ARGUMENTS], const uint8_t *bytes, size_t bytes_length,
                  uint64_t answer[RNIC_C_WORDS]);

@@ -1,4 +1,4 @@
-/* Checks rnic.h against the library: the size and the alignment of a device, and an answer of each call.
+/* Checks rnic.h against the library: the words of a device, and an answer of each call.
  * It writes `ok` and ends with 0, or says what differs and ends with 1. */
 #include "rnic.h"
 
@@ -18,35 +18,42 @@ static void expect(const char *what, const uint64_t *got, uint64_t kind, uint64_
     }
 }
 
-/* The first byte and one past the last byte that opening writes, of a buffer filled with a pattern. */
-static void written(unsigned char *room, size_t size, unsigned char *at, unsigned char pattern, size_t *first, size_t *last) {
-    uint64_t a[RNIC_C_ARGUMENTS] = {STORE, 0, 1024, 1024, 2048, 2048, 3072, 3072, STORE};
-    uint64_t answer[RNIC_C_WORDS];
-    memset(room, pattern, size);
-    rnic_c_call((struct rnic *)at, store, STORE, RNIC_OPEN, a, store, 0, answer);
-    expect("open", answer, RNIC_DONE, 0, 0);
-    for (*first = 0; *first < size && room[*first] == pattern; ++*first) {
-    }
-    for (*last = size; *last > *first && room[*last - 1] == pattern; --*last) {
+_Static_assert(sizeof(struct rnic) == 8 * RNIC_C_DEVICE_WORDS, "a device is its words");
+
+/* Says what is wrong where some words are not all the same as one. */
+static void expect_words(const char *what, const struct rnic *words, uint64_t word) {
+    for (size_t i = 0; i < RNIC_C_DEVICE_WORDS; ++i) {
+        if (words->words[i] != word) {
+            printf("%s: word %zu is %llx\n", what, i, (unsigned long long)words->words[i]);
+            wrong = 1;
+            return;
+        }
     }
 }
 
-/* A device that lies at an address that is no multiple of 16 is written from its first byte to its last, and nothing else. */
-static void check_size(void) {
-    static _Alignas(16) unsigned char room[3 * RNIC_C_SIZE];
-    size_t before = (RNIC_C_SIZE / 16) * 16 + RNIC_C_ALIGN, first, last;
-    unsigned char patterns[] = {0xA5, 0x5A};
-    for (int i = 0; i < 2; ++i) {
-        written(room, sizeof room, room + before, patterns[i], &first, &last);
-        if (first != before || last != before + RNIC_C_SIZE) {
-            printf("a device of %d bytes at %zu was written from %zu up to %zu\n", RNIC_C_SIZE, before, first, last);
-            wrong = 1;
-        }
-    }
-    if (sizeof(struct rnic) != RNIC_C_SIZE || _Alignof(struct rnic) != RNIC_C_ALIGN) {
-        printf("struct rnic: %zu bytes, aligned to %zu\n", sizeof(struct rnic), _Alignof(struct rnic));
+/* Opens the middle one of three devices that are filled with a pattern, over a store of a length: the others stay. */
+static void open_between(struct rnic three[3], int pattern, uint64_t length, uint64_t kind, uint64_t first) {
+    uint64_t a[RNIC_C_ARGUMENTS] = {length, 0, 1024, 1024, 2048, 2048, 3072, 3072, STORE};
+    uint64_t answer[RNIC_C_WORDS], word;
+    memset(three, pattern, 3 * sizeof three[0]);
+    memset(&word, pattern, sizeof word);
+    rnic_c_call(&three[1], store, STORE, RNIC_OPEN, a, store, 0, answer);
+    expect("open", answer, kind, first, 0);
+    expect_words("before the device that was opened", &three[0], word);
+    expect_words("behind the device that was opened", &three[2], word);
+}
+
+/* An opening makes every word of a device anew, whatever it held, and a refused one leaves zeros. */
+static void check_words(void) {
+    static struct rnic one[3], other[3];
+    open_between(one, 0xA5, STORE, RNIC_DONE, 0);
+    open_between(other, 0x5A, STORE, RNIC_DONE, 0);
+    if (memcmp(&one[1], &other[1], sizeof one[1]) != 0) {
+        puts("two devices that were opened in the same way have other words");
         wrong = 1;
     }
+    open_between(one, 0xA5, 0, RNIC_REFUSED, 1);
+    expect_words("a refused opening", &one[1], 0);
 }
 
 static struct rnic device;
@@ -87,7 +94,7 @@ static void check_write(void) {
 
 int main(void) {
     uint64_t a[RNIC_C_ARGUMENTS] = {STORE, 0, 1024, 1024, 2048, 2048, 3072, 3072, STORE}, answer[RNIC_C_WORDS];
-    check_size();
+    check_words();
     if (wrong) {
         return 1; /* what follows would write past a device that is too small */
     }

@@ -1,169 +1,133 @@
 //! Every call by itself: what a host does beside Writes, with the aims for each.
 
-use std::hint::black_box;
-
 use oracle::generate::draft::{frame, Draft, Sink};
 use oracle::generate::prng::Prng;
 use oracle::rdmap;
-use oracle::state::Device as Second;
 
-use crate::measure::{measure, repeated, Work};
-use crate::receiver::{Ours, Receiver};
-use crate::scene::{Kind, Scene, BASE, KEY};
-use crate::table;
+use crate::bed::{act, Act, Step, OTHER, RIGHTS, STREAM, WINDOW};
+use crate::scene::{BASE, KEY, ROOM};
+use crate::table::{self, Aim};
 
-/// The stream that is used; a second one, of the same domain, is opened and closed, and a third stays closed.
-const STREAM: u64 = 0;
-const OTHER: u64 = 1;
-const CLOSED: u64 = 2;
-/// A window that is registered and dropped, beside the one that stays.
-const WINDOW: u64 = 1;
-/// Where the MSN lies in the FPDU of an untagged segment.
-const MSN: std::ops::Range<usize> = 12..16;
-
-/// What is done in one operation.
-#[derive(Clone, Copy, Debug)]
-enum Act {
-    /// Posts a buffer, and receives a Send of so many bytes into it.
-    PostAndSend(usize),
-    /// Receives a Read Request, and takes it.
-    ReadAndTake,
-    /// Receives the front of an FPDU.
-    Wait,
-    /// Asks for a read where none waits.
-    TakeNone,
-    /// Opens and closes a stream.
-    OpenAndClose,
-    /// Registers and drops a window.
-    RegisterAndDrop,
-    /// Asks how many windows are live.
-    Live,
-    /// Asks for the lowest free slot.
-    Free,
-    /// Receives on a stream that is not open.
-    NotOpen,
-    /// Receives a segment that is refused, and closes and opens the stream that it ended.
-    RefusedAndReopened,
+/// Gives the acts, with the aims for them: ours at most so many times the second program.
+fn acts() -> Vec<(Act, f64)> {
+    vec![
+        (post_and_send(64), 3.0),
+        (post_and_send(2030), 2.0),
+        (read_and_take(), 4.0),
+        (wait(), 2.0),
+        (take_none(), 6.0),
+        (open_and_close(), 4.0),
+        (register_and_drop(), 8.0),
+        (live(), 6.0),
+        (free(), 6.0),
+    ]
 }
-
-/// The acts, named, with the aims where there are any: ours at most so many times the second program.
-const ACTS: [(Act, &str, Option<f64>); 11] = [
-    (Act::PostAndSend(64), "post and Send, 64 bytes", Some(3.0)),
-    (Act::PostAndSend(2030), "post and Send, 2,030 bytes", Some(2.0)),
-    (Act::ReadAndTake, "Read Request and take", Some(4.0)),
-    (Act::Wait, "receive of half an FPDU: Wait", Some(2.0)),
-    (Act::TakeNone, "take, none waits", Some(6.0)),
-    (Act::OpenAndClose, "open and close a stream", Some(4.0)),
-    (Act::RegisterAndDrop, "register and drop a window", Some(8.0)),
-    (Act::Live, "live", Some(6.0)),
-    (Act::Free, "free", Some(6.0)),
-    (Act::NotOpen, "receive, stream not open", None),
-    (Act::RefusedAndReopened, "receive refused, close, open", None),
-];
 
 /// Writes the table.
 pub fn write() {
     println!("\n### Every call, CRC off");
     let columns = ["ours", "second program", "ours ÷ second", "aim", "met"];
     table::head(&["call"], &columns);
-    for (act, name, aim) in ACTS {
-        let mut contenders = [work::<Ours>(act), work::<Second>(act)];
-        let times = measure(1, &mut contenders);
-        let ratio = times[0].ratio(&times[1]);
-        let met = |aim| if ratio <= aim { "yes" } else { "no" };
-        table::row(&[
-            String::from(name),
-            table::times(&times[0]),
-            table::times(&times[1]),
-            format!("{ratio:.2}"),
-            aim.map_or(String::from("–"), |aim| format!("{aim:.1}")),
-            String::from(aim.map_or("–", met)),
-        ]);
+    for (act, aim) in acts() {
+        let [ours, second] = act.times();
+        let mut cells = table::compared(act.name, &ours, &second);
+        cells.extend(Aim(Some(aim)).cells(ours.ratio(&second)));
+        table::row(&cells);
     }
 }
 
-/// Gives an act as work on a device of its own.
-fn work<R: Receiver + 'static>(act: Act) -> Work<'static> {
-    let scene = Scene {
-        streams: 1,
-        ..Scene::of(Kind::Write, 64, false)
-    };
-    let mut device: R = scene.device();
-    let mut store = vec![0; scene.store as usize];
-    done(device.close_stream(STREAM));
-    done(device.open_stream(STREAM, false));
-    let mut bytes = frame_of(act);
-    let mut number: u32 = 0;
-    repeated(move || {
-        number = number.wrapping_add(1);
-        match act {
-            Act::PostAndSend(size) => {
-                bytes[MSN].copy_from_slice(&number.to_be_bytes());
-                done(device.post(STREAM, 0, size as u64));
-                done(device.receive(&mut store, STREAM, black_box(&bytes)).is_some());
-            }
-            Act::ReadAndTake => {
-                bytes[MSN].copy_from_slice(&number.to_be_bytes());
-                done(device.receive(&mut store, STREAM, black_box(&bytes)).is_some());
-                done(device.take(STREAM));
-            }
-            Act::Wait => not_taken(&mut device, &mut store, STREAM, &bytes[..bytes.len() / 2]),
-            Act::TakeNone => done(!device.take(black_box(STREAM))),
-            Act::OpenAndClose => {
-                done(device.open_stream(black_box(OTHER), false));
-                done(device.close_stream(OTHER));
-            }
-            Act::RegisterAndDrop => {
-                let key = KEY + u64::from(number % 2);
-                done(device.register(black_box(WINDOW), key, BASE, 64, 0));
-                done(device.drop_window(WINDOW));
-            }
-            Act::Live => done(device.live(black_box(0)) == Some(1)),
-            Act::Free => done(device.free(black_box(0)) == Some(1)),
-            Act::NotOpen => not_taken(&mut device, &mut store, CLOSED, &bytes),
-            Act::RefusedAndReopened => {
-                not_taken(&mut device, &mut store, STREAM, &bytes);
-                done(device.close_stream(STREAM));
-                done(device.open_stream(STREAM, false));
-            }
-        }
-    })
+/// A buffer for any Send.
+pub const POST: Step = Step::Post(STREAM, 0, ROOM);
+/// The act's FPDU, received on the stream that is used.
+pub const RECEIVE: Step = Step::Receive(STREAM);
+
+/// Posts a buffer, and receives a Send of so many bytes into it.
+pub fn post_and_send(size: usize) -> Act {
+    let name = format!("post and Send, {} bytes", table::grouped(size as u64));
+    let bytes = frame(&send(size).ulpdu(), 0);
+    act!(name, [Step::Next, Step::Number, POST, RECEIVE], bytes)
 }
 
-/// Writes the FPDU of an act.
-fn frame_of(act: Act) -> Vec<u8> {
+/// Receives a Read Request, and takes it.
+pub fn read_and_take() -> Act {
+    let bytes = frame(&read_request().ulpdu(), 0);
+    let name = "Read Request and take";
+    act!(
+        name,
+        [Step::Next, Step::Number, RECEIVE, Step::Take(STREAM)],
+        bytes
+    )
+}
+
+/// Receives the front of an FPDU.
+pub fn wait() -> Act {
+    let bytes = frame(&write_of(64).ulpdu(), 0);
+    let name = "receive of half an FPDU: Wait";
+    act!(name, [Step::ReceiveHalf(STREAM)], bytes)
+}
+
+/// Asks for a read where none waits.
+pub fn take_none() -> Act {
+    act!("take, none waits", [Step::Take(STREAM)], Vec::new()).refused(11)
+}
+
+/// Opens and closes a stream.
+pub fn open_and_close() -> Act {
+    let name = "open and close a stream";
+    act!(
+        name,
+        [Step::OpenStream(OTHER, false), Step::Close(OTHER)],
+        Vec::new()
+    )
+}
+
+/// Registers and drops a window.
+pub fn register_and_drop() -> Act {
+    let name = "register and drop a window";
+    act!(
+        name,
+        [
+            Step::Next,
+            Step::Register(WINDOW, RIGHTS),
+            Step::Drop(WINDOW)
+        ],
+        Vec::new()
+    )
+}
+
+/// Asks how many windows are live.
+pub fn live() -> Act {
+    act!("live", [Step::Live(0)], Vec::new())
+}
+
+/// Asks for the lowest free slot.
+pub fn free() -> Act {
+    act!("free", [Step::Free(0)], Vec::new())
+}
+
+/// Drafts a Write of so many bytes into the window that stays.
+pub fn write_of(size: usize) -> Draft {
     let mut draft = Draft::new(true, rdmap::WRITE);
     (draft.stag, draft.to) = (KEY as u32, BASE);
-    match act {
-        Act::PostAndSend(size) => {
-            draft = Draft::new(false, rdmap::SEND);
-            draft.payload = Prng::new(1).bytes(size);
-        }
-        Act::ReadAndTake => {
-            draft = Draft::new(false, rdmap::READ_REQUEST);
-            (draft.qn, draft.stag, draft.to) = (rdmap::READ_QUEUE, KEY as u32, BASE);
-            draft.sink = Some(Sink {
-                stag: 1,
-                to: 0,
-                size: 64,
-            });
-        }
-        Act::RefusedAndReopened => {
-            draft.ddp_version = 2;
-            draft.payload = Prng::new(1).bytes(64);
-        }
-        _ => draft.payload = Prng::new(1).bytes(64),
-    }
-    frame(&draft.ulpdu(), 0)
+    draft.payload = Prng::new(1).bytes(size);
+    draft
 }
 
-/// Receives what is not taken.
-fn not_taken<R: Receiver>(device: &mut R, store: &mut [u8], stream: u64, bytes: &[u8]) {
-    let answer = device.receive(store, black_box(stream), black_box(bytes));
-    done(answer.is_none());
+/// Drafts a Send of so many bytes.
+pub fn send(size: usize) -> Draft {
+    let mut draft = Draft::new(false, rdmap::SEND);
+    draft.payload = Prng::new(1).bytes(size);
+    draft
 }
 
-/// Stops where a call was not answered as it should be.
-fn done(answer: bool) {
-    assert!(answer, "a call was answered otherwise");
+/// Drafts a Read Request of bytes of the window that stays.
+pub fn read_request() -> Draft {
+    let mut draft = Draft::new(false, rdmap::READ_REQUEST);
+    (draft.qn, draft.stag, draft.to) = (rdmap::READ_QUEUE, KEY as u32, BASE);
+    draft.sink = Some(Sink {
+        stag: 1,
+        to: 0,
+        size: 64,
+    });
+    draft
 }

@@ -19,16 +19,18 @@ fn bytes() {
         "second, CRC off",
         "ours, CRC on",
         "second, CRC on",
+        "eight tables, CRC on",
     ];
     table::head(&["payload"], &columns);
     let payloads = [0, 256, 512, 1024, 1536, 2034];
-    let mut points: [Vec<(f64, f64)>; 4] = Default::default();
+    let mut points: [Vec<(f64, f64)>; 5] = Default::default();
     for payload in payloads {
         let [off, on] = [false, true].map(|crc| compare(Scene::of(Kind::Write, payload, crc)));
-        let all = [off.ours, off.second, on.ours, on.second];
+        let off = [off.ours, off.second];
+        let on = [on.ours, on.second].into_iter().chain(on.eight);
         let mut cells = vec![table::grouped(payload as u64)];
-        for (times, points) in all.iter().zip(&mut points) {
-            cells.push(table::times(times));
+        for (times, points) in off.into_iter().chain(on).zip(&mut points) {
+            cells.push(table::times(&times));
             points.push((payload as f64, times.median()));
         }
         table::row(&cells);

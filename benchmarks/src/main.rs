@@ -1,19 +1,40 @@
 //! What the proved receiver costs, side by side with the second program, as tables in Markdown.
 //!
-//! Nothing here is a test's verdict: the program fails only where the two receivers answer differently.
+//! Nothing here is a test's verdict: the program fails only where the two receivers answer differently. With `count` before
+//! them it takes the arguments of `count`.
 
+mod bed;
 mod calls;
+mod count;
 mod crc;
 mod growth;
 mod measure;
+mod nights;
 mod receive;
 mod receiver;
+mod refusals;
 mod scene;
 mod table;
 mod work;
 
+use std::process::ExitCode;
+
+/// Writes every table, or repeats a call to be counted.
+fn main() -> ExitCode {
+    let words: Vec<String> = std::env::args().skip(1).collect();
+    match words.split_first() {
+        None => write(),
+        Some((mode, words)) if mode == "count" && count::run(words) => (),
+        Some(_) => {
+            eprintln!("usage: benchmarks [count names | count ours|second CALL OFTEN]");
+            return ExitCode::FAILURE;
+        }
+    }
+    ExitCode::SUCCESS
+}
+
 /// Writes every table.
-fn main() {
+fn write() {
     println!(
         "Nanoseconds an operation: the median of {} rounds of at least {} ms, in brackets the quartiles.",
         measure::ROUNDS,
@@ -27,5 +48,7 @@ fn main() {
     crc::write();
     receive::write();
     calls::write();
+    refusals::write();
+    nights::write();
     growth::write();
 }

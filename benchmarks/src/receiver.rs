@@ -1,94 +1,132 @@
 //! The receivers that are compared, each set up by the same calls.
 
+use host::{Error, Received, Window};
+use oracle::mpa::{read_fpdu, Frame, CRC_FIELD};
 use oracle::receive::{Answer, Event as SecondEvent};
-use oracle::state::{Device as Second, Part};
+use oracle::refusal::{Refusal, WRONG_CRC};
+use oracle::state::{Condition, Device as Second, Part, STREAMS};
+
+use crate::crc::eight_tables;
+
+/// What a call answers, as far as the receivers are compared in it.
+#[derive(Clone, Copy, Debug, PartialEq, Eq)]
+pub enum Outcome {
+    /// It was done; what closing and taking give is left out.
+    Done,
+    /// A question's answer.
+    Counted(u64),
+    /// So many bytes are waited for.
+    Wait(usize),
+    /// An FPDU of this total was taken, which completes a Send or not.
+    Taken { total: usize, sent: bool },
+    /// The number of a refusal, of the host's call or of the peer's bytes.
+    Refused(u8),
+}
 
 /// A receiver that can be set up and timed.
 pub trait Receiver {
     /// Gives one that is not yet opened.
     fn new() -> Self;
     /// Opens it; the parts are given by their starts and ends.
-    fn open(&mut self, length: u64, parts: [(u64, u64); 4]) -> bool;
+    fn open(&mut self, length: u64, parts: [(u64, u64); 4]) -> Outcome;
     /// Opens a stream.
-    fn open_stream(&mut self, stream: u64, crc: bool) -> bool;
+    fn open_stream(&mut self, stream: u64, crc: bool) -> Outcome;
     /// Closes a stream.
-    fn close_stream(&mut self, stream: u64) -> bool;
-    /// Registers a window with both rights.
-    fn register(&mut self, window: u64, key: u64, base: u64, length: u64, place: u64) -> bool;
+    fn close_stream(&mut self, stream: u64) -> Outcome;
+    /// Registers a window.
+    fn register(&mut self, number: u64, window: Window) -> Outcome;
     /// Posts a buffer.
-    fn post(&mut self, stream: u64, start: u64, length: u64) -> bool;
+    fn post(&mut self, stream: u64, start: u64, length: u64) -> Outcome;
     /// Drops a window.
-    fn drop_window(&mut self, window: u64) -> bool;
+    fn drop_window(&mut self, window: u64) -> Outcome;
     /// Takes a read.
-    fn take(&mut self, stream: u64) -> bool;
+    fn take(&mut self, stream: u64) -> Outcome;
     /// Counts a domain's live windows.
-    fn live(&mut self, domain: u64) -> Option<u64>;
+    fn live(&mut self, domain: u64) -> Outcome;
     /// Gives a domain's lowest free slot.
-    fn free(&mut self, domain: u64) -> Option<u64>;
-    /// Takes an FPDU and gives its total and whether a Send is complete, or nothing where it is not taken.
-    fn receive(&mut self, store: &mut [u8], stream: u64, bytes: &[u8]) -> Option<(usize, bool)>;
+    fn free(&mut self, domain: u64) -> Outcome;
+    /// Takes an FPDU.
+    fn receive(&mut self, store: &mut [u8], stream: u64, bytes: &[u8]) -> Outcome;
 }
 
 /// Ours, through the C interface.
 pub type Ours = host::Device;
+
+/// Gives the outcome of one of our calls by what it gives back.
+fn ours<T>(answer: Result<T, Error>, given: impl FnOnce(T) -> Outcome) -> Outcome {
+    match answer {
+        Ok(value) => given(value),
+        Err(Error::Refused(number)) => Outcome::Refused(number),
+        Err(error) => panic!("{error}"),
+    }
+}
 
 impl Receiver for Ours {
     fn new() -> Self {
         host::Device::new()
     }
 
-    fn open(&mut self, length: u64, parts: [(u64, u64); 4]) -> bool {
+    fn open(&mut self, length: u64, parts: [(u64, u64); 4]) -> Outcome {
         let ranges = parts.map(|(start, end)| start..end);
-        host::Device::open(self, length, ranges).is_ok()
+        ours(host::Device::open(self, length, ranges), |()| Outcome::Done)
     }
 
-    fn open_stream(&mut self, stream: u64, crc: bool) -> bool {
-        host::Device::open_stream(self, stream, crc).is_ok()
+    fn open_stream(&mut self, stream: u64, crc: bool) -> Outcome {
+        let opened = host::Device::open_stream(self, stream, crc);
+        ours(opened, |()| Outcome::Done)
     }
 
-    fn close_stream(&mut self, stream: u64) -> bool {
-        host::Device::close_stream(self, stream).is_ok()
+    fn close_stream(&mut self, stream: u64) -> Outcome {
+        let closed = host::Device::close_stream(self, stream);
+        ours(closed, |_| Outcome::Done)
     }
 
-    fn register(&mut self, window: u64, key: u64, base: u64, length: u64, place: u64) -> bool {
-        let rights = host::RIGHT_WRITE | host::RIGHT_READ;
-        let registered = host::Window {
-            key,
-            base,
-            length,
-            place,
-            rights,
-        };
-        host::Device::register(self, window, registered).is_ok()
+    fn register(&mut self, number: u64, window: Window) -> Outcome {
+        let registered = host::Device::register(self, number, window);
+        ours(registered, |()| Outcome::Done)
     }
 
-    fn post(&mut self, stream: u64, start: u64, length: u64) -> bool {
-        host::Device::post(self, stream, start, length).is_ok()
+    fn post(&mut self, stream: u64, start: u64, length: u64) -> Outcome {
+        let posted = host::Device::post(self, stream, start, length);
+        ours(posted, |()| Outcome::Done)
     }
 
-    fn drop_window(&mut self, window: u64) -> bool {
-        host::Device::drop_window(self, window).is_ok()
+    fn drop_window(&mut self, window: u64) -> Outcome {
+        ours(host::Device::drop_window(self, window), |()| Outcome::Done)
     }
 
-    fn take(&mut self, stream: u64) -> bool {
-        host::Device::take(self, stream).is_ok()
+    fn take(&mut self, stream: u64) -> Outcome {
+        ours(host::Device::take(self, stream), |_| Outcome::Done)
     }
 
-    fn live(&mut self, domain: u64) -> Option<u64> {
-        host::Device::live_count(self, domain).ok().map(u64::from)
+    fn live(&mut self, domain: u64) -> Outcome {
+        let count = host::Device::live_count(self, domain);
+        ours(count, |count| Outcome::Counted(u64::from(count)))
     }
 
-    fn free(&mut self, domain: u64) -> Option<u64> {
-        host::Device::lowest_free(self, domain).ok().map(u64::from)
+    fn free(&mut self, domain: u64) -> Outcome {
+        let slot = host::Device::lowest_free(self, domain);
+        ours(slot, |slot| Outcome::Counted(u64::from(slot)))
     }
 
-    fn receive(&mut self, store: &mut [u8], stream: u64, bytes: &[u8]) -> Option<(usize, bool)> {
-        match host::Device::receive(self, store, stream, bytes) {
-            Ok(host::Received::Taken { total, event }) => {
-                Some((total, matches!(event, host::Event::Send { .. })))
-            }
-            _ => None,
-        }
+    fn receive(&mut self, store: &mut [u8], stream: u64, bytes: &[u8]) -> Outcome {
+        let received = host::Device::receive(self, store, stream, bytes);
+        ours(received, |received| match received {
+            Received::Wait(total) => Outcome::Wait(total),
+            Received::Taken { total, event } => Outcome::Taken {
+                total,
+                sent: matches!(event, host::Event::Send { .. }),
+            },
+            Received::Ended(fault) => Outcome::Refused(fault.number),
+        })
+    }
+}
+
+/// Gives the outcome of one of the second program's calls by what it gives back.
+fn second<T>(answer: Result<T, Refusal>, given: impl FnOnce(T) -> Outcome) -> Outcome {
+    match answer {
+        Ok(value) => given(value),
+        Err(refusal) => Outcome::Refused(refusal as u8),
     }
 }
 
@@ -97,49 +135,146 @@ impl Receiver for Second {
         Second::default()
     }
 
-    fn open(&mut self, length: u64, parts: [(u64, u64); 4]) -> bool {
+    fn open(&mut self, length: u64, parts: [(u64, u64); 4]) -> Outcome {
         let parts = parts.map(|(start, end)| Part { start, end });
-        Second::open(self, length, parts).is_ok()
+        second(Second::open(self, length, parts), |()| Outcome::Done)
     }
 
-    fn open_stream(&mut self, stream: u64, crc: bool) -> bool {
-        Second::open_stream(self, stream, crc).is_ok()
+    fn open_stream(&mut self, stream: u64, crc: bool) -> Outcome {
+        second(Second::open_stream(self, stream, crc), |()| Outcome::Done)
     }
 
-    fn close_stream(&mut self, stream: u64) -> bool {
-        Second::close_stream(self, stream).is_ok()
+    fn close_stream(&mut self, stream: u64) -> Outcome {
+        second(Second::close_stream(self, stream), |_| Outcome::Done)
     }
 
-    fn register(&mut self, window: u64, key: u64, base: u64, length: u64, place: u64) -> bool {
-        Second::register(self, window, key, base, length, place, 3).is_ok()
+    fn register(&mut self, number: u64, window: Window) -> Outcome {
+        let Window {
+            key,
+            base,
+            length,
+            place,
+            rights,
+        } = window;
+        let registered = Second::register(self, number, key, base, length, place, rights);
+        second(registered, |()| Outcome::Done)
     }
 
-    fn post(&mut self, stream: u64, start: u64, length: u64) -> bool {
-        Second::post(self, stream, start, length).is_ok()
+    fn post(&mut self, stream: u64, start: u64, length: u64) -> Outcome {
+        second(Second::post(self, stream, start, length), |()| {
+            Outcome::Done
+        })
     }
 
-    fn drop_window(&mut self, window: u64) -> bool {
-        Second::drop_window(self, window).is_ok()
+    fn drop_window(&mut self, window: u64) -> Outcome {
+        second(Second::drop_window(self, window), |()| Outcome::Done)
     }
 
-    fn take(&mut self, stream: u64) -> bool {
-        Second::take_read(self, stream).is_ok()
+    fn take(&mut self, stream: u64) -> Outcome {
+        second(Second::take_read(self, stream), |_| Outcome::Done)
     }
 
-    fn live(&mut self, domain: u64) -> Option<u64> {
-        Second::live(self, domain).ok().map(|count| count as u64)
+    fn live(&mut self, domain: u64) -> Outcome {
+        let count = Second::live(self, domain);
+        second(count, |count| Outcome::Counted(count as u64))
     }
 
-    fn free(&mut self, domain: u64) -> Option<u64> {
-        Second::free(self, domain).ok().map(|slot| slot as u64)
+    fn free(&mut self, domain: u64) -> Outcome {
+        let slot = Second::free(self, domain);
+        second(slot, |slot| Outcome::Counted(slot as u64))
     }
 
-    fn receive(&mut self, store: &mut [u8], stream: u64, bytes: &[u8]) -> Option<(usize, bool)> {
+    fn receive(&mut self, store: &mut [u8], stream: u64, bytes: &[u8]) -> Outcome {
         match Second::receive(self, store, stream, bytes) {
-            Answer::Taken { total, event } => {
-                Some((total, matches!(event, SecondEvent::Send { .. })))
-            }
-            _ => None,
+            Answer::Wait(total) => Outcome::Wait(total),
+            Answer::Taken { total, event } => Outcome::Taken {
+                total,
+                sent: matches!(event, SecondEvent::Send { .. }),
+            },
+            Answer::Refused(refusal) => Outcome::Refused(refusal as u8),
+            Answer::Fault(fault) => Outcome::Refused(fault.number),
         }
+    }
+}
+
+/// The second program with its CRC by eight tables: its own check is off, and the bytes are checked before it.
+pub struct Eight {
+    device: Second,
+    checked: [bool; STREAMS],
+}
+
+impl Eight {
+    /// Says whether the second program would find a wrong CRC: no refusal of the host's call and no other of the frame is
+    /// asked before it, but for a frame that is too long or not whole.
+    fn is_wrong(&self, store: &[u8], stream: u64, bytes: &[u8]) -> bool {
+        let number = stream as usize;
+        if self.checked.get(number) != Some(&true)
+            || store.len() as u64 != self.device.length
+            || self.device.streams[number].condition != Condition::Open
+        {
+            return false;
+        }
+        let Frame::Whole { total, .. } = read_fpdu(false, bytes) else {
+            return false;
+        };
+        let (covered, crc) = bytes[..total].split_at(total - CRC_FIELD);
+        crc != eight_tables(covered).to_le_bytes()
+    }
+}
+
+impl Receiver for Eight {
+    fn new() -> Self {
+        Eight {
+            device: Second::default(),
+            checked: [false; STREAMS],
+        }
+    }
+
+    fn open(&mut self, length: u64, parts: [(u64, u64); 4]) -> Outcome {
+        Receiver::open(&mut self.device, length, parts)
+    }
+
+    fn open_stream(&mut self, stream: u64, crc: bool) -> Outcome {
+        let outcome = Receiver::open_stream(&mut self.device, stream, false);
+        if outcome == Outcome::Done {
+            self.checked[stream as usize] = crc;
+        }
+        outcome
+    }
+
+    fn close_stream(&mut self, stream: u64) -> Outcome {
+        Receiver::close_stream(&mut self.device, stream)
+    }
+
+    fn register(&mut self, number: u64, window: Window) -> Outcome {
+        Receiver::register(&mut self.device, number, window)
+    }
+
+    fn post(&mut self, stream: u64, start: u64, length: u64) -> Outcome {
+        Receiver::post(&mut self.device, stream, start, length)
+    }
+
+    fn drop_window(&mut self, window: u64) -> Outcome {
+        Receiver::drop_window(&mut self.device, window)
+    }
+
+    fn take(&mut self, stream: u64) -> Outcome {
+        Receiver::take(&mut self.device, stream)
+    }
+
+    fn live(&mut self, domain: u64) -> Outcome {
+        Receiver::live(&mut self.device, domain)
+    }
+
+    fn free(&mut self, domain: u64) -> Outcome {
+        Receiver::free(&mut self.device, domain)
+    }
+
+    fn receive(&mut self, store: &mut [u8], stream: u64, bytes: &[u8]) -> Outcome {
+        if self.is_wrong(store, stream, bytes) {
+            self.device.streams[stream as usize].condition = Condition::Faulted(WRONG_CRC);
+            return Outcome::Refused(WRONG_CRC.number);
+        }
+        Receiver::receive(&mut self.device, store, stream, bytes)
     }
 }

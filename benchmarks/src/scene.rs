@@ -1,19 +1,21 @@
 //! What is received, and by what device: eight FPDUs, whose payloads all go to the front of the store.
 
+use host::Window;
 use oracle::ddp::{TAGGED_HEADER, UNTAGGED_HEADER};
 use oracle::generate::draft::{frame, Draft};
 use oracle::generate::prng::Prng;
 use oracle::mpa::LENGTH_FIELD;
 use oracle::rdmap;
 
-use crate::receiver::Receiver;
+use crate::bed::RIGHTS;
+use crate::receiver::{Outcome, Receiver};
 
 /// FPDUs of a scene, as many as buffers can wait on a stream.
 pub const FRAMES: u64 = 8;
 /// Streams that the Sends go to in turn, all of one domain.
 pub const SEND_STREAMS: u64 = 4;
 /// Bytes of the first domain's windows and buffers, which all stand at the front of the store.
-const ROOM: u64 = 2048;
+pub const ROOM: u64 = 2048;
 /// Bytes of each of the other domains, and of their windows and buffers.
 const OTHER: u64 = 256;
 /// The tagged offset at which each window starts.
@@ -97,16 +99,28 @@ impl Scene {
     /// Sets up a device with the windows live, and the streams open with all the buffers that they can have.
     pub fn device<R: Receiver>(&self) -> R {
         let mut device = R::new();
-        let parts = [0, 1, 2, 3].map(|domain| self.part(domain));
-        done(device.open(self.store, parts));
-        for window in 0..self.windows {
-            let (place, length) = self.extent(window / 16);
-            done(device.register(window, KEY, BASE, length, place));
+        done(self.open(&mut device));
+        for number in 0..self.windows {
+            let (place, length) = self.extent(number / 16);
+            let window = Window {
+                key: KEY,
+                base: BASE,
+                length,
+                place,
+                rights: RIGHTS,
+            };
+            done(device.register(number, window));
         }
         for stream in 0..self.streams {
             self.open_stream(&mut device, stream);
         }
         device
+    }
+
+    /// Opens a device over the scene's store.
+    pub fn open<R: Receiver>(&self, device: &mut R) -> Outcome {
+        let parts = [0, 1, 2, 3].map(|domain| self.part(domain));
+        device.open(self.store, parts)
     }
 
     /// Opens a stream and posts its buffers.
@@ -128,6 +142,7 @@ impl Scene {
 }
 
 /// Stops where a call that sets the scene up was refused.
-fn done(answer: bool) {
-    assert!(answer, "a call that sets the scene up was refused");
+fn done(outcome: Outcome) {
+    let refused = "a call that sets the scene up was refused";
+    assert!(outcome == Outcome::Done, "{refused}");
 }

@@ -15,6 +15,43 @@ pub fn row(cells: &[String]) {
     println!("| {} |", cells.join(" | "));
 }
 
+/// Gives the cells of a row's name, both receivers' times and their ratio.
+pub fn compared(name: String, ours: &Times, second: &Times) -> Vec<String> {
+    let ratio = ratio(ours, second);
+    vec![name, times(ours), times(second), ratio]
+}
+
+/// Writes how many times another contender's time one takes.
+pub fn ratio(ours: &Times, other: &Times) -> String {
+    format!("{:.2}", ours.ratio(other))
+}
+
+/// Gives the cells of the second program with eight tables, where it was timed, and of the ratio to it.
+pub fn eight(ours: &Times, eight: Option<&Times>) -> [String; 2] {
+    match eight {
+        Some(eight) => [times(eight), ratio(ours, eight)],
+        None => [NONE, NONE].map(String::from),
+    }
+}
+
+/// What stands where a row has no value.
+const NONE: &str = "–";
+
+/// An aim: ours at most so many times the second program, where there is one.
+#[derive(Clone, Copy, Debug)]
+pub struct Aim(pub Option<f64>);
+
+impl Aim {
+    /// Gives the cells of the aim, and of whether a ratio meets it.
+    pub fn cells(self, ratio: f64) -> [String; 2] {
+        match self.0 {
+            Some(aim) if ratio <= aim => [format!("{aim:.1}"), String::from("yes")],
+            Some(aim) => [format!("{aim:.1}"), String::from("no")],
+            None => [NONE, NONE].map(String::from),
+        }
+    }
+}
+
 /// Writes a contender's median and, in brackets, the quartiles of its rounds.
 pub fn times(times: &Times) -> String {
     let (lower, upper) = times.quartiles();

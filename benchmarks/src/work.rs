@@ -6,31 +6,37 @@ use std::time::{Duration, Instant};
 use oracle::state::Device as Second;
 
 use crate::measure::{measure, repeated, Times, Work};
-use crate::receiver::{Ours, Receiver};
+use crate::receiver::{Eight, Ours, Outcome, Receiver};
 use crate::scene::{Kind, Scene, FRAMES, SEND_STREAMS};
 
-/// The times of a scene's three contenders.
+/// The times of a scene's contenders; the second program with eight tables is one where the CRC is on.
 pub struct Compared {
     pub ours: Times,
     pub second: Times,
     pub copying: Times,
+    pub eight: Option<Times>,
 }
 
-/// Times ours, the second program and the copying alone on one scene, once the two receivers have agreed on it.
+/// Times the receivers and the copying alone on one scene, once the receivers have agreed on it.
 pub fn compare(scene: Scene) -> Compared {
     let frames = scene.frames();
-    check(scene, &frames);
-    let mut contenders = [
+    check::<Second>(scene, &frames);
+    check::<Eight>(scene, &frames);
+    let mut contenders = vec![
         receiving::<Ours>(scene, &frames),
         receiving::<Second>(scene, &frames),
         copying(scene, &frames),
     ];
-    let times = measure(FRAMES * streams(scene), &mut contenders);
-    let [ours, second, copying] = times.try_into().expect("a time for each contender");
+    if scene.crc {
+        contenders.push(receiving::<Eight>(scene, &frames));
+    }
+    let mut times = measure(FRAMES * streams(scene), &mut contenders).into_iter();
+    let mut next = || times.next().expect("a time for each contender");
     Compared {
-        ours,
-        second,
-        copying,
+        ours: next(),
+        second: next(),
+        copying: next(),
+        eight: times.next(),
     }
 }
 
@@ -65,9 +71,11 @@ fn receiving<R: Receiver + 'static>(scene: Scene, frames: &[Vec<u8>]) -> Work<'_
 
 /// Receives the frames on a stream, all of which must be taken.
 fn receive_all<R: Receiver>(device: &mut R, store: &mut [u8], stream: u64, frames: &[Vec<u8>]) {
-    let taken = frames
-        .iter()
-        .filter(|bytes| device.receive(store, stream, black_box(bytes)).is_some());
+    let mut taken = |bytes: &[u8]| {
+        let outcome = device.receive(store, stream, black_box(bytes));
+        matches!(outcome, Outcome::Taken { .. })
+    };
+    let taken = frames.iter().filter(|bytes| taken(bytes));
     assert_eq!(taken.count(), frames.len(), "an FPDU was not taken");
     black_box(store);
 }
@@ -87,15 +95,16 @@ fn copying(scene: Scene, frames: &[Vec<u8>]) -> Work<'_> {
     })
 }
 
-/// Receives the frames once on each receiver, whose answers and stores must be the same.
-fn check(scene: Scene, frames: &[Vec<u8>]) {
-    let (mut ours, mut second): (Ours, Second) = (scene.device(), scene.device());
+/// Receives the frames once on ours and another receiver, whose answers and stores must be the same.
+fn check<R: Receiver>(scene: Scene, frames: &[Vec<u8>]) {
+    let (mut ours, mut second): (Ours, R) = (scene.device(), scene.device());
     let mut store = vec![0; scene.store as usize];
     let mut other = store.clone();
     for bytes in frames {
-        let answer = Receiver::receive(&mut ours, &mut store, 0, bytes);
-        assert_eq!(answer, Some((bytes.len(), scene.kind == Kind::Send)));
-        assert_eq!(answer, Receiver::receive(&mut second, &mut other, 0, bytes));
+        let outcome = Receiver::receive(&mut ours, &mut store, 0, bytes);
+        let (total, sent) = (bytes.len(), scene.kind == Kind::Send);
+        assert_eq!(outcome, Outcome::Taken { total, sent });
+        assert_eq!(outcome, second.receive(&mut other, 0, bytes));
     }
     assert!(store == other, "the stores differ");
 }

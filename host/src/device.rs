@@ -22,8 +22,9 @@ pub struct Window {
     pub rights: u64,
 }
 
-/// A receiver with four domains, which owns its state; the store is lent at each receive.
-#[derive(Clone)]
+/// A receiver with four domains, which owns its state; the store is lent at each receive. Two are equal where their words
+/// are, which turn on their calls alone; from then on the same calls have the same answers on both.
+#[derive(Clone, PartialEq, Eq)]
 pub struct Device {
     state: Box<Rnic>,
 }
@@ -36,7 +37,7 @@ impl Default for Device {
 }
 
 impl fmt::Debug for Device {
-    /// Writes the type's name alone, since the state is opaque.
+    /// Writes the type's name alone, since the state is many words that say nothing.
     fn fmt(&self, out: &mut fmt::Formatter<'_>) -> fmt::Result {
         out.debug_struct("Device").finish_non_exhaustive()
     }
@@ -45,12 +46,9 @@ impl fmt::Debug for Device {
 impl Device {
     /// Gives the device that a refused opening leaves: of length 0, with empty parts and no stream open.
     pub fn new() -> Self {
-        let mut device = Device {
+        Device {
             state: Box::new(Rnic::ZERO),
-        };
-        // The answer is refusal 1, since no store has length 0; the state is then the library's own.
-        device.call(call::OPEN, &[]);
-        device
+        }
     }
 
     /// Opens the device anew over a store of this length with a part for each domain; refused, it is as a new one.
@@ -63,16 +61,19 @@ impl Device {
     }
 
     /// Opens a stream with the CRC on or off.
+    #[inline]
     pub fn open_stream(&mut self, stream: u64, crc: bool) -> Result<(), Error> {
         words::done(&self.call(call::OPEN_STREAM, &[stream, u64::from(crc)]))
     }
 
     /// Closes a stream and gives what was left on it.
+    #[inline]
     pub fn close_stream(&mut self, stream: u64) -> Result<Closed, Error> {
         words::closed(&self.call(call::CLOSE_STREAM, &[stream]))
     }
 
     /// Registers a window under its number.
+    #[inline]
     pub fn register(&mut self, number: u64, window: Window) -> Result<(), Error> {
         let Window {
             key,
@@ -86,31 +87,37 @@ impl Device {
     }
 
     /// Drops a live window.
+    #[inline]
     pub fn drop_window(&mut self, number: u64) -> Result<(), Error> {
         words::done(&self.call(call::DROP_WINDOW, &[number]))
     }
 
     /// Posts a receive buffer at the end of a stream's queue.
+    #[inline]
     pub fn post(&mut self, stream: u64, start: u64, length: u64) -> Result<(), Error> {
         words::done(&self.call(call::POST, &[stream, start, length]))
     }
 
     /// Takes the oldest read that waits on a stream.
+    #[inline]
     pub fn take(&mut self, stream: u64) -> Result<ReadRequest, Error> {
         words::read_request(&self.call(call::TAKE, &[stream]))
     }
 
     /// Counts the live windows of a domain.
+    #[inline]
     pub fn live_count(&mut self, domain: u64) -> Result<u32, Error> {
         words::counted(&self.call(call::LIVE_COUNT, &[domain]))
     }
 
     /// Gives the lowest free one of a domain's sixteen slots, 16 if there is none.
+    #[inline]
     pub fn lowest_free(&mut self, domain: u64) -> Result<u32, Error> {
         words::counted(&self.call(call::LOWEST_FREE, &[domain]))
     }
 
     /// Takes the first FPDU of some bytes for a stream; the whole store is lent.
+    #[inline]
     pub fn receive(
         &mut self,
         store: &mut [u8],
@@ -135,6 +142,7 @@ impl Device {
     }
 
     /// Makes a call that is lent neither store nor bytes and gives its answer's words; arguments left out are 0.
+    #[inline]
     fn call(&mut self, number: u64, given: &[u64]) -> Words {
         let mut arguments: Arguments = [0; 9];
         for (argument, value) in arguments.iter_mut().zip(given) {

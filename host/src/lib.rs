@@ -3,7 +3,7 @@
 //! [`Device`] holds the state of four protection domains; the program keeps the store, up to 16 MiB, and lends it at
 //! each [`Device::receive`]. Every function answers whatever the numbers and bytes are, and none panics. The work is
 //! done by the proved static library; here its answer words become [`Received`], [`Closed`], [`ReadRequest`] or
-//! [`Error`], and the bytes of the state are kept where nothing else writes them.
+//! [`Error`], and the words of the state are kept where nothing else writes them.
 //!
 //! A peer writes four bytes into a window:
 //!

@@ -1,20 +1,20 @@
 //! The C interface as `include/rnic.h` declares it; [`crate::Device`] is the safe way to it.
 
-/// Bytes of a device's state: `RNIC_C_SIZE` of the header.
-pub const SIZE: usize = 7336;
-/// Where a device's state may start: `RNIC_C_ALIGN` of the header.
-pub const ALIGN: usize = 8;
+/// How many words a device has: `RNIC_C_DEVICE_WORDS` of the header.
+pub const DEVICE_WORDS: usize = 933;
 
-/// A device's state, `struct rnic` of the header; all zeros is the device that a refused opening leaves.
-#[derive(Clone, Copy)]
-#[repr(C, align(8))]
+/// A device, `struct rnic` of the header. Any words are one.
+#[derive(Clone, Copy, Debug, PartialEq, Eq)]
+#[repr(C)]
 pub struct Rnic {
-    opaque: [u8; SIZE],
+    pub words: [u64; DEVICE_WORDS],
 }
 
 impl Rnic {
-    /// The state that a refused opening leaves: every field is 0, which is a value of each.
-    pub const ZERO: Rnic = Rnic { opaque: [0; SIZE] };
+    /// The device that a refused opening leaves.
+    pub const ZERO: Rnic = Rnic {
+        words: [0; DEVICE_WORDS],
+    };
 }
 
 /// The nine argument words of a call, those that it does not use being passed over.

@@ -4,6 +4,7 @@ use crate::answer::{Closed, Error, Event, Fault, ReadRequest, Received};
 use crate::raw::{kind, Words};
 
 /// Gives what a reader finds in the words, or the refusal or the words where it finds nothing.
+#[inline]
 fn read<T>(words: &Words, reader: fn(&Words) -> Option<T>) -> Result<T, Error> {
     let refused = || match *words {
         [kind::REFUSED, number, 0, 0, 0, 0, 0, 0] => field(number).map(Error::Refused),
@@ -13,11 +14,13 @@ fn read<T>(words: &Words, reader: fn(&Words) -> Option<T>) -> Result<T, Error> {
 }
 
 /// Gives a word as its field's type, or nothing where it does not fit.
+#[inline]
 fn field<T: TryFrom<u64>>(word: u64) -> Option<T> {
     T::try_from(word).ok()
 }
 
 /// Reads the answer of a call that gives nothing back.
+#[inline]
 pub(crate) fn done(words: &Words) -> Result<(), Error> {
     read(words, |words| match *words {
         [kind::DONE, 0, 0, 0, 0, 0, 0, 0] => Some(()),
@@ -26,6 +29,7 @@ pub(crate) fn done(words: &Words) -> Result<(), Error> {
 }
 
 /// Reads the answer of closing a stream.
+#[inline]
 pub(crate) fn closed(words: &Words) -> Result<Closed, Error> {
     read(words, |words| match *words {
         [kind::CLOSED, buffers, reads, 0, 0, 0, 0, 0] => Some(Closed {
@@ -37,6 +41,7 @@ pub(crate) fn closed(words: &Words) -> Result<Closed, Error> {
 }
 
 /// Reads the answer of taking a read.
+#[inline]
 pub(crate) fn read_request(words: &Words) -> Result<ReadRequest, Error> {
     read(words, |words| match *words {
         [kind::READ, sink_stag, sink_to, size, source_stag, source_to, 0, 0] => Some(ReadRequest {
@@ -51,6 +56,7 @@ pub(crate) fn read_request(words: &Words) -> Result<ReadRequest, Error> {
 }
 
 /// Reads the answer of a question.
+#[inline]
 pub(crate) fn counted(words: &Words) -> Result<u32, Error> {
     read(words, |words| match *words {
         [kind::COUNTED, count, 0, 0, 0, 0, 0, 0] => field(count),
@@ -59,6 +65,7 @@ pub(crate) fn counted(words: &Words) -> Result<u32, Error> {
 }
 
 /// Reads the answer of receive.
+#[inline]
 pub(crate) fn received(words: &Words) -> Result<Received, Error> {
     read(words, |words| match *words {
         [kind::WAIT, total, 0, 0, 0, 0, 0, 0] => Some(Received::Wait(field(total)?)),
@@ -76,6 +83,7 @@ pub(crate) fn received(words: &Words) -> Result<Received, Error> {
 }
 
 /// Reads what a taken FPDU reports.
+#[inline]
 fn event(words: &Words) -> Option<Event> {
     match *words {
         [kind::TAKEN, _, 0, 0, 0, 0, 0, 0] => Some(Event::None),
@@ -93,6 +101,7 @@ fn event(words: &Words) -> Option<Event> {
 }
 
 /// Gives the event of a complete Send.
+#[inline]
 fn sent(start: u64, length: u64, opcode: u64, invalidated: Option<u32>) -> Option<Event> {
     Some(Event::Send {
         start: field(start)?,

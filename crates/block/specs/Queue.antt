@@ -5,10 +5,13 @@ use lib.ListN.{getD}
 use Rattle.memory.specs.Buffer.{noBuffer}
 use Rattle.memory.specs.declared.buffer.Buffers.{Buffers}
 use Rattle.rdmap.specs.Read.{noRead}
+use Rattle.rdmap.specs.Sends.{currentBuffer}
 use Rattle.rdmap.specs.declared.read.ReadRequest.{ReadRequest}
 use Rattle.rdmap.specs.declared.read.Reads.{Reads}
 use Rattle.rdmap.specs.declared.sends.Sends.{Sends}
 use Rattle.rdmap.specs.declared.terminates.Terminates.{Terminates}
+use Rattle.block.specs.declared.reads.Tally.{Tally}
+use Rattle.block.specs.declared.sends.Head.{Head}
 use Rattle.block.specs.Words.{sequence, pairWord, lowerHalf, upperHalf, bufferIn, bufferWord}
 
 -- sends: the MSN and the opcode; the bytes taken and the count; the buffers
@@ -22,6 +25,17 @@ sendsIn g =
       opcode = getD g 0 0 / 4294967296 % 256;
       taken = lowerHalf (getD g 1 0);
       buffers = buffersIn g;
+    }
+
+-- what the next segment of a Send asks of them
+abbrev pub headOf : Sends → Head
+headOf s =
+    record {
+      msn = s .msn;
+      opcode = s .opcode;
+      taken = s .taken;
+      count = s .buffers .count;
+      buffer = currentBuffer s;
     }
 
 abbrev pub sendsWords : Sends → List ℕ
@@ -56,6 +70,10 @@ requestsIn g = sequence 8 (λ i. requestIn g (1 + i * 4))
 
 abbrev pub readsIn : List ℕ → Reads
 readsIn g = record { msn = lowerHalf (getD g 0 0); count = upperHalf (getD g 0 0); entries = requestsIn g }
+
+-- their next MSN, and how many wait
+abbrev pub tallyOf : Reads → Tally
+tallyOf r = record { msn = r .msn; count = r .count }
 
 abbrev pub waitingRead : Reads → ℕ → ReadRequest
 waitingRead r i = getD (r .entries) i noRead

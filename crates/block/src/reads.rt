@@ -11,6 +11,7 @@ ghost use Rattle.block.specs.Queue.{
   requestWords,
   fourWords,
   readsIn,
+  tallyOf,
 };
 ghost use Rattle.block.specs.Stream.{loadedReads, storedReads};
 use crate::copy::copy;
@@ -22,6 +23,12 @@ use crate::pack::pair;
 use crate::pack::upper;
 use rdmap::read::ReadRequest;
 use rdmap::read::Reads;
+
+// The next MSN of the reads, and how many wait.
+pub struct Tally {
+    pub msn: u32,
+    pub count: u32,
+}
 
 // The request in the four words from at.
 fn request_in(g: &[u64], at: usize) -> ReadRequest
@@ -66,6 +73,17 @@ fn decode(g: &[u64]) -> Reads
     }
 }
 
+// The tally of the reads in their words.
+fn decode_tally(g: &[u64]) -> Tally
+    requires { ⌜ length (now g) ≡ 33 ⌝ }
+    ensures { λ r. ⌜ r ≡ tallyOf (readsIn (now (g .entry))) ⌝ }
+{
+    Tally {
+        msn: lower(g[0]),
+        count: upper(g[0]),
+    }
+}
+
 // The word of a request's two STags; a request's four words say the request.
 fn stags_word(q: ReadRequest) -> u64
     ensures { λ r. ⌜ (r ≡ stagsWord q) × (requestIn (requestWords q []) 0 ≡ q) ⌝ }
@@ -105,6 +123,16 @@ pub fn load_reads(words: &[u64], domain: usize, slot: usize) -> Reads
     let at = stream_offset(domain, slot) + READS;
     let end = at + READS_WORDS;
     decode(&words[at..end])
+}
+
+// Loads the tally of the reads of the stream of a domain's slot.
+pub fn load_tally(words: &[u64], domain: usize, slot: usize) -> Tally
+    requires { ⌜ (domain < 4) × (slot < 4) × (blockWords ≤ length (now words)) ⌝ }
+    ensures { λ r. ⌜ r ≡ tallyOf (loadedReads (now (words .entry)) domain slot) ⌝ }
+{
+    let at = stream_offset(domain, slot) + READS;
+    let end = at + READS_WORDS;
+    decode_tally(&words[at..end])
 }
 
 // Stores the reads of the stream of a domain's slot.

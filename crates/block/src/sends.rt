@@ -4,7 +4,7 @@ ghost use Prim.Native.Nat.{_<_, _≤_};
 ghost use lib.ListN.{length};
 ghost use Rattle.block.specs.Layout.{blockWords};
 ghost use Rattle.block.specs.Words.{bufferIn, bufferWord};
-ghost use Rattle.block.specs.Queue.{buffersIn, sendsIn, sendsWords};
+ghost use Rattle.block.specs.Queue.{buffersIn, sendsIn, sendsWords, headOf};
 ghost use Rattle.block.specs.Stream.{loadedSends, storedSends};
 use crate::copy::copy;
 use crate::layout::SENDS;
@@ -16,6 +16,16 @@ use crate::pack::upper;
 use memory::buffer::Buffer;
 use memory::buffer::Buffers;
 use rdmap::sends::Sends;
+
+// What the next segment of a Send asks of the sends: the next MSN, the opcode of a Send under way and how
+// many of its bytes are taken, how many buffers wait, and the one that is filled.
+pub struct Head {
+    pub msn: u32,
+    pub opcode: u8,
+    pub taken: u32,
+    pub count: u32,
+    pub buffer: Buffer,
+}
 
 // The buffer in a word.
 fn buffer_in(x: u64) -> Buffer
@@ -67,6 +77,20 @@ fn decode(g: &[u64]) -> Sends
     }
 }
 
+// The head of the sends in their words.
+fn decode_head(g: &[u64]) -> Head
+    requires { ⌜ length (now g) ≡ 10 ⌝ }
+    ensures { λ r. ⌜ r ≡ headOf (sendsIn (now (g .entry))) ⌝ }
+{
+    Head {
+        msn: lower(g[0]),
+        opcode: (g[0] / 4294967296 % 256) as u8,
+        taken: lower(g[1]),
+        count: upper(g[1]),
+        buffer: buffer_in(g[2]),
+    }
+}
+
 // The words of sends, which say the sends.
 fn encode(s: Sends) -> [u64; 10]
     ensures { λ r. ⌜ (r ≡ sendsWords s) × (sendsIn (sendsWords s) ≡ s) ⌝ }
@@ -95,6 +119,16 @@ pub fn load_sends(words: &[u64], domain: usize, slot: usize) -> Sends
     let at = stream_offset(domain, slot) + SENDS;
     let end = at + SENDS_WORDS;
     decode(&words[at..end])
+}
+
+// Loads the head of the sends of the stream of a domain's slot.
+pub fn load_head(words: &[u64], domain: usize, slot: usize) -> Head
+    requires { ⌜ (domain < 4) × (slot < 4) × (blockWords ≤ length (now words)) ⌝ }
+    ensures { λ r. ⌜ r ≡ headOf (loadedSends (now (words .entry)) domain slot) ⌝ }
+{
+    let at = stream_offset(domain, slot) + SENDS;
+    let end = at + SENDS_WORDS;
+    decode_head(&words[at..end])
 }
 
 // Stores the sends of the stream of a domain's slot.

@@ -1,34 +1,15 @@
-// A stream of a domain, in its 46 words: all of its groups.
+// A stream of a domain, stored in its 46 words: all of its groups.
 ghost use mathlib.Core.Path.{_≡_};
 ghost use Prim.Native.Nat.{_<_, _≤_};
 ghost use lib.ListN.{length};
 ghost use Rattle.block.specs.Layout.{blockWords};
 ghost use Rattle.block.specs.Stream.{loadedStream, storedStream};
-use crate::framing::load_framing;
 use crate::framing::store_framing;
-use crate::phase::load_phase;
 use crate::phase::store_phase;
-use crate::reads::load_reads;
 use crate::reads::store_reads;
-use crate::sends::load_sends;
 use crate::sends::store_sends;
-use crate::terminates::load_terminates;
 use crate::terminates::store_terminates;
 use rdmap::stream::Stream;
-
-// Loads the stream of a domain's slot.
-pub fn load_stream(words: &[u64], domain: usize, slot: usize) -> Stream
-    requires { ⌜ (domain < 4) × (slot < 4) × (blockWords ≤ length (now words)) ⌝ }
-    ensures { λ r. ⌜ r ≡ loadedStream (now (words .entry)) domain slot ⌝ }
-{
-    Stream {
-        phase: load_phase(words, domain, slot),
-        framing: load_framing(words, domain, slot),
-        sends: load_sends(words, domain, slot),
-        reads: load_reads(words, domain, slot),
-        terminates: load_terminates(words, domain, slot),
-    }
-}
 
 // Stores the stream of a domain's slot.
 pub fn store_stream(words: &mut [u64], domain: usize, slot: usize, s: Stream)

@@ -4,7 +4,7 @@ ghost use Prim.Native.Nat.{_<_, _≤_};
 ghost use lib.ListN.{length};
 ghost use Rattle.block.specs.Layout.{blockWords};
 ghost use Rattle.block.specs.Words.{windowIn, accessWord, windowWords};
-ghost use Rattle.block.specs.Device.{loadedWindow, loadedWindows, storedWindow};
+ghost use Rattle.block.specs.Device.{loadedWindow, storedWindow};
 use crate::copy::copy;
 use crate::layout::WINDOW_WORDS;
 use crate::layout::window_offset;
@@ -27,6 +27,14 @@ fn decode(g: &[u64]) -> Window
         len: upper(g[1]),
         base: g[2],
     }
+}
+
+// Whether the window in its words is live.
+fn decode_live(g: &[u64]) -> bool
+    requires { ⌜ length (now g) ≡ 3 ⌝ }
+    ensures { λ r. ⌜ r ≡ windowIn (now (g .entry)) .live ⌝ }
+{
+    g[0] % 2 == 1
 }
 
 // The word that says whether a window is live, with its key and its rights.
@@ -53,29 +61,14 @@ pub fn load_window(words: &[u64], domain: usize, slot: usize) -> Window
     decode(&words[at..end])
 }
 
-// Loads all windows of a domain.
-pub fn load_windows(words: &[u64], domain: usize) -> [Window; 16]
-    requires { ⌜ (domain < 4) × (blockWords ≤ length (now words)) ⌝ }
-    ensures { λ r. ⌜ r ≡ loadedWindows (now (words .entry)) domain ⌝ }
+// Loads whether the window of a domain's slot is live.
+pub fn load_live(words: &[u64], domain: usize, slot: usize) -> bool
+    requires { ⌜ (domain < 4) × (slot < 16) × (blockWords ≤ length (now words)) ⌝ }
+    ensures { λ r. ⌜ r ≡ loadedWindow (now (words .entry)) domain slot .live ⌝ }
 {
-    [
-        load_window(words, domain, 0),
-        load_window(words, domain, 1),
-        load_window(words, domain, 2),
-        load_window(words, domain, 3),
-        load_window(words, domain, 4),
-        load_window(words, domain, 5),
-        load_window(words, domain, 6),
-        load_window(words, domain, 7),
-        load_window(words, domain, 8),
-        load_window(words, domain, 9),
-        load_window(words, domain, 10),
-        load_window(words, domain, 11),
-        load_window(words, domain, 12),
-        load_window(words, domain, 13),
-        load_window(words, domain, 14),
-        load_window(words, domain, 15),
-    ]
+    let at = window_offset(domain, slot);
+    let end = at + WINDOW_WORDS;
+    decode_live(&words[at..end])
 }
 
 // Stores the window of a domain's slot.

@@ -25,7 +25,7 @@ pub fn words(kind: u64, a: u64, b: u64, c: u64, d: u64, e: u64) -> [u64; 8]
 }
 
 // What a call that is done or refused answers.
-pub(crate) fn outcome_words(outcome: Outcome) -> [u64; 8]
+pub fn outcome_words(outcome: Outcome) -> [u64; 8]
     ensures { λ r. ⌜ r ≡ outcomeWords outcome ⌝ }
 {
     match outcome {
@@ -35,7 +35,7 @@ pub(crate) fn outcome_words(outcome: Outcome) -> [u64; 8]
 }
 
 // What closing a stream answers.
-pub(crate) fn close_words(answer: CloseAnswer) -> [u64; 8]
+pub fn close_words(answer: CloseAnswer) -> [u64; 8]
     ensures { λ r. ⌜ r ≡ closeWords answer ⌝ }
 {
     match answer {
@@ -45,7 +45,7 @@ pub(crate) fn close_words(answer: CloseAnswer) -> [u64; 8]
 }
 
 // What taking a read answers.
-pub(crate) fn take_words(answer: TakeAnswer) -> [u64; 8]
+pub fn take_words(answer: TakeAnswer) -> [u64; 8]
     ensures { λ r. ⌜ r ≡ takeWords answer ⌝ }
 {
     match answer {
@@ -62,7 +62,7 @@ pub(crate) fn take_words(answer: TakeAnswer) -> [u64; 8]
 }
 
 // What a question answers.
-pub(crate) fn count_words(count: Count) -> [u64; 8]
+pub fn count_words(count: Count) -> [u64; 8]
     ensures { λ r. ⌜ r ≡ countWords count ⌝ }
 {
     match count {

@@ -44,14 +44,13 @@ fn judge_offset(q: Queue, mo: u32, len: u64) -> Untagged
     Untagged::Refused(INVALID_MO)
 }
 
-// Judges an untagged payload of len bytes.
-pub fn judge_untagged(queues: [Queue; 3], qn: u32, msn: u32, mo: u32, len: u64) -> Untagged
-    ensures { λ r. ⌜ r ≡ untaggedOf queues qn msn mo len ⌝ }
+// Judges an untagged payload of len bytes by q, what the queue qn expects.
+pub fn judge_untagged(q: Queue, qn: u32, msn: u32, mo: u32, len: u64) -> Untagged
+    ensures { λ r. ⌜ r ≡ untaggedOf q qn msn mo len ⌝ }
 {
     if 2 < qn {
         return Untagged::Refused(INVALID_QN);
     }
-    let q = queues[qn as usize];
     let room = q.room;
     let next = msn == q.msn;
     if next {

@@ -15,8 +15,9 @@ use Rattle.ddp.specs.declared.header.TaggedHeader.{TaggedHeader}
 use Rattle.ddp.specs.declared.segment.SegmentRead.{SegmentRead}
 use Rattle.ddp.specs.declared.segment.SegmentRead.the-variants.{Wait as SegmentWait, Refused as SegmentRefused, Tagged as TaggedSegment, Untagged as UntaggedSegment}
 use Rattle.memory.specs.declared.window.Window.{Window}
-use Rattle.rdmap.specs.Message.{writeVerdict, queuesOf, untaggedVerdict}
+use Rattle.rdmap.specs.Message.{writeVerdict, stagNamed, queueOf, untaggedVerdict}
 use Rattle.rdmap.specs.Phase.{readiness}
+use Rattle.rdmap.specs.Sends.{currentBuffer}
 use Rattle.rdmap.specs.Stream.{endedBy, terminatedBy, sendingOn, sentOn, queuedOn}
 use Rattle.rdmap.specs.declared.message.Invalidate.{Invalidate}
 use Rattle.rdmap.specs.declared.message.Invalidate.the-variants.{NoStag, Stag}
@@ -78,7 +79,9 @@ partsVerdict ws number s input (SegmentRefused r) = VerdictRefused r
 partsVerdict ws number s input (TaggedSegment total h start len) =
     taggedVerdict (windowAt ws (slotNamed (h .stag))) number h len
 partsVerdict ws number s input (UntaggedSegment total h start len) =
-    untaggedVerdict ws number (s .sends) h (part input start len) (untaggedOf (queuesOf s) (h .qn) (h .msn) (h .mo) (length (part input start len)))
+    let payload : List ℕ = part input start len in
+    untaggedVerdict (windowAt ws (slotNamed (stagNamed h payload))) number (s .sends .opcode) (currentBuffer (s .sends)) h payload
+    (untaggedOf (queueOf s (h .qn)) (h .qn) (h .msn) (h .mo) (length payload))
 
 -- and the FPDU that it came in, with its total: "handles that first FPDU only"
 abbrev pub partsJudged : List Window → ℕ → Stream → List ℕ → SegmentRead → Judged

@@ -3,8 +3,8 @@
 // records in hand, and is lent no other domain's bytes.
 //
 // Read `Domain` first, then `receive`, which takes the first FPDU of some bytes for a stream, and
-// `Answer`, what it answers; the module `parts` does it over what it needs of the domain, and `write`
-// is the fast path of a valid Write. The definitions, in specs/Domain.antt, are the paper's "A's book".
+// `Answer`, what it answers; the module `parts` does it over what it needs of the domain, and `placing`
+// puts the payload in its place. The definitions, in specs/Domain.antt, are the paper's "A's book".
 ghost use mathlib.Core.Path.{_≡_};
 ghost use Prim.Native.Nat.{_<_};
 ghost use Rattle.domain.specs.Domain.{
@@ -31,8 +31,7 @@ use rdmap::stream::TakeAnswer;
 use rdmap::stream::closed_stream;
 
 pub mod parts;
-mod placing;
-pub mod write;
+pub mod placing;
 
 // What a domain holds.
 #[repr(C)]

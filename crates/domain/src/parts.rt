@@ -16,10 +16,16 @@ ghost use Rattle.domain.specs.Parts.{
   partsReceivedBytes,
   killed,
 };
+ghost use lib.ListN.{length};
+ghost use Rattle.memory.specs.Window.{windowAt, slotNamed};
 ghost use Rattle.ddp.specs.Segment.{segmentRead};
+ghost use Rattle.ddp.specs.Untagged.{untaggedOf};
+ghost use Rattle.rdmap.specs.Message.{stagNamed, queueOf, untaggedVerdict};
+ghost use Rattle.rdmap.specs.Sends.{currentBuffer};
 use crate::Answer;
 use crate::Event;
 use crate::placing::place_by;
+use ddp::header::UntaggedHeader;
 use ddp::segment::SegmentRead;
 use ddp::segment::read_segment;
 use memory::part::Part;
@@ -29,6 +35,7 @@ use rdmap::message::Invalidate;
 use rdmap::message::Verdict;
 use rdmap::message::judge_tagged_segment;
 use rdmap::message::judge_untagged_segment;
+use rdmap::message::stag_named;
 use rdmap::phase::Readiness;
 use rdmap::stream::Stream;
 
@@ -46,7 +53,7 @@ pub enum Judged {
 }
 
 // The event of a Send that is complete.
-fn sent_event(start: u32, len: u32, opcode: u8, which: Invalidate) -> Event
+pub fn sent_event(start: u32, len: u32, opcode: u8, which: Invalidate) -> Event
     ensures { λ r. ⌜ r ≡ sentEvent start len opcode which ⌝ }
 {
     match which {
@@ -107,6 +114,23 @@ fn apply(s: Stream, total: usize, verdict: Verdict) -> PartsReceived
     }
 }
 
+// Judges an untagged segment with its payload by the window in the slot that its STag names.
+fn judge_untagged(
+    windows: [Window; 16],
+    number: u64,
+    s: Stream,
+    h: UntaggedHeader,
+    payload: &[u8],
+) -> Verdict
+    ensures { λ r. ⌜ r ≡ untaggedVerdict (windowAt windows (slotNamed (stagNamed h (now (payload .entry))))) number (s .sends .opcode) (currentBuffer (s .sends)) h (now (payload .entry)) (untaggedOf (queueOf s (h .qn)) (h .qn) (h .msn) (h .mo) (length (now (payload .entry)))) ⌝ }
+{
+    let w = windows[slot_named(stag_named(h, payload))];
+    let sends = s.sends;
+    let q = s.queue_of(h.qn);
+    let b = sends.current();
+    judge_untagged_segment(w, number, q, sends.opcode, b, h, payload)
+}
+
 // Judges the first FPDU of bytes for an open stream of the domain of this number, and places its
 // payload in the domain's bytes, which are lent.
 fn judge_first(
@@ -142,7 +166,7 @@ fn judge_first(
             len,
         } => {
             let end = start + len;
-            let verdict = judge_untagged_segment(windows, number, s, header, &bytes[start..end]);
+            let verdict = judge_untagged(windows, number, s, header, &bytes[start..end]);
             place_by(store, part.start, verdict, &bytes[start..end]);
             Judged::Fpdu(total, verdict)
         }

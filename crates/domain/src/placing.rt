@@ -4,7 +4,7 @@ ghost use Rattle.domain.specs.Parts.{placedFrom, appliedBytes};
 use rdmap::message::Verdict;
 
 // Places a payload at a place of the store in the domain's bytes, which start at start.
-pub(crate) fn place_from(bytes: &mut [u8], start: u32, at: u64, payload: &[u8])
+pub fn place_from(bytes: &mut [u8], start: u32, at: u64, payload: &[u8])
     ensures { λ _. ⌜ now (bytes .exit) ≡ placedFrom start at (now (payload .entry)) (now (bytes .entry)) ⌝ }
 {
     let from = start as u64;
@@ -14,7 +14,7 @@ pub(crate) fn place_from(bytes: &mut [u8], start: u32, at: u64, payload: &[u8])
 }
 
 // What a verdict makes of the domain's bytes.
-pub(crate) fn place_by(bytes: &mut [u8], start: u32, verdict: Verdict, payload: &[u8])
+pub fn place_by(bytes: &mut [u8], start: u32, verdict: Verdict, payload: &[u8])
     ensures { λ _. ⌜ now (bytes .exit) ≡ appliedBytes start verdict (now (payload .entry)) (now (bytes .entry)) ⌝ }
 {
     match verdict {

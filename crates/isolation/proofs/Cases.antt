@@ -13,14 +13,14 @@ use Rattle.wire.proofs.Laws.{both-true, same-eq}
 use Rattle.mpa.specs.Fpdu.{totalOf, fpduRead, fpduReadOf}
 use Rattle.mpa.specs.Startup.{startupOf}
 use Rattle.memory.specs.Part.{inPart}
-use Rattle.memory.specs.Window.{inRange, windowFits, registered, dropped, named, foundIn, wraps, spanned}
+use Rattle.memory.specs.Window.{inRange, windowFits, registeredIn, registered, droppedIn, dropped, named, foundIn, wraps, spanned}
 use Rattle.memory.specs.Buffer.{posted, poppedOf}
 use Rattle.ddp.specs.Header.{taggedFields, untaggedFields, taggedRead, untaggedRead, headerRead}
 use Rattle.ddp.specs.Segment.{segmentRead}
 use Rattle.ddp.specs.Tagged.{taggedOf}
 use Rattle.ddp.specs.Untagged.{untaggedIn, untaggedOf, nextMsn}
 use Rattle.ddp.specs.Place.{fits, placed}
-use Rattle.rdmap.specs.Message.{sendVerdict, readVerdict, terminateVerdict, messageVerdict, queuesOf}
+use Rattle.rdmap.specs.Message.{sendVerdict, readVerdict, terminateVerdict, messageVerdict, queueOf}
 use Rattle.rdmap.specs.Stream.{opened, postedOn, sentOn, openedStream}
 use Rattle.domain.specs.Domain.{domainOpened, domainPosted, domainRegistered, domainDropped, domainReceived, domainReceivedBytes}
 use Rattle.domain.specs.Parts.{partsApplied, placedFrom, appliedBytes, partsReceived, partsReceivedBytes}
@@ -123,7 +123,7 @@ all (x ∷ xs) = both (same (x .got) (x .want)) (all xs)
 
 -- the test passes over the whole table
 log-holds : all log ≡ true
-unfolding fpduRead fpduReadOf startupOf inPart inRange windowFits registered dropped named foundIn wraps spanned posted poppedOf taggedFields untaggedFields taggedRead untaggedRead headerRead segmentRead taggedOf untaggedIn untaggedOf fits placed sendVerdict readVerdict terminateVerdict messageVerdict queuesOf opened postedOn domainOpened domainPosted domainRegistered domainDropped partsApplied placedFrom appliedBytes partsReceived partsReceivedBytes domainReceived domainReceivedBytes openedRnic rnicOpened rnicPosted rnicRegistered rnicDropped receivedOwned receivedOwnedStore rnicReceived rnicReceivedStore
+unfolding fpduRead fpduReadOf startupOf inPart inRange windowFits registeredIn registered droppedIn dropped named foundIn wraps spanned posted poppedOf taggedFields untaggedFields taggedRead untaggedRead headerRead segmentRead taggedOf untaggedIn untaggedOf fits placed sendVerdict readVerdict terminateVerdict messageVerdict queueOf opened postedOn domainOpened domainPosted domainRegistered domainDropped partsApplied placedFrom appliedBytes partsReceived partsReceivedBytes domainReceived domainReceivedBytes openedRnic rnicOpened rnicPosted rnicRegistered rnicDropped receivedOwned receivedOwnedStore rnicReceived rnicReceivedStore
 log-holds = refl
 
 -- so each case gives what it must

@@ -14,7 +14,7 @@ use borrow.Rule.Slice.PartMut.{mid-len}
 use Rattle.wire.specs.Wire.{pick, both, part, put}
 use Rattle.wire.proofs.Laws.{length-part}
 use Rattle.memory.specs.Part.{inPart}
-use Rattle.memory.specs.Window.{noWindow, windowAt, slotNamed, found, spanned}
+use Rattle.memory.specs.Window.{noWindow, windowAt, slotNamed, foundIn, spanned}
 use Rattle.memory.specs.Buffer.{noBuffer, posted, poppedOf}
 use Rattle.ddp.specs.Tagged.{taggedOf}
 use Rattle.ddp.specs.Untagged.{untaggedIn, untaggedOf}
@@ -39,11 +39,11 @@ use Rattle.memory.specs.declared.window.Span.{Span}
 use Rattle.memory.specs.declared.window.Span.the-variants.{Inside, Wrap, Outside}
 use Rattle.ddp.proofs.Inside.{tagged-in}
 use Rattle.memory.proofs.Inside.{Lies, WindowIn, WindowsIn, BuffersIn, registered-in, dropped-in, posted-in, popped-in}
-use Rattle.rdmap.specs.Message.{opcodeOf, controlled, after, mayWrite, mayRead, writeVerdict, fitsQueue, takesStag, invalidated, sendVerdict, sourceIn, sourceOf, readVerdict, terminateVerdict, messageVerdict, queuesOf, untaggedVerdict}
+use Rattle.rdmap.specs.Message.{opcodeOf, controlled, after, mayWrite, mayRead, writeVerdict, fitsQueue, takesStag, invalidated, sendVerdict, sourceIn, sourceOf, readVerdict, terminateVerdict, messageVerdict, stagNamed, queueOf, untaggedVerdict}
 use Rattle.rdmap.specs.Read.{requestAt}
 use Rattle.rdmap.specs.Refusal.{noWriteRight, noReadRight, malformed}
 use Rattle.rdmap.specs.Phase.{isClosed, readiness}
-use Rattle.rdmap.specs.Sends.{noBuffers}
+use Rattle.rdmap.specs.Sends.{noBuffers, currentBuffer}
 use Rattle.rdmap.specs.Stream.{closedStream, opened, closed, postedWhen, postedOn, takenWhen, takenFrom}
 use Rattle.rdmap.specs.declared.message.Control.{Control}
 use Rattle.rdmap.specs.declared.message.Control.the-variants.{Valid, Refused as ControlRefused}
@@ -398,18 +398,18 @@ module _ (p : Part) (n : ℕ) where
   invalidated-lands b opcode start end stag l Missing = tt
   invalidated-lands b opcode start end stag l (Slot slot) = l
 
-  send-lands : (ws : List Window) (number : ℕ) (b : Buffer) (h : UntaggedHeader) (start end : ℕ) → Lies p (b .start + start) n → Lands p (sendVerdict ws number b h start end) n
+  send-lands : (w : Window) (number : ℕ) (b : Buffer) (h : UntaggedHeader) (start end : ℕ) → Lies p (b .start + start) n → Lands p (sendVerdict w number b h start end) n
   unfolding sendVerdict
-  send-lands ws number b h start end l =
+  send-lands w number b h start end l =
       pick-lands (h .last)
       (pick (takesStag (opcodeOf (h .control)))
-      (invalidated b (opcodeOf (h .control)) start end (h .stag) (found ws number (h .stag)))
+      (invalidated b (opcodeOf (h .control)) start end (h .stag) (foundIn w number (h .stag)))
       (SendLast (b .start + start) (opcodeOf (h .control)) (b .start) end NoStag))
       (SendMore (b .start + start) (opcodeOf (h .control)) end)
       (pick-lands (takesStag (opcodeOf (h .control)))
-      (invalidated b (opcodeOf (h .control)) start end (h .stag) (found ws number (h .stag)))
+      (invalidated b (opcodeOf (h .control)) start end (h .stag) (foundIn w number (h .stag)))
       (SendLast (b .start + start) (opcodeOf (h .control)) (b .start) end NoStag)
-      (invalidated-lands b (opcodeOf (h .control)) start end (h .stag) l (found ws number (h .stag))) l)
+      (invalidated-lands b (opcodeOf (h .control)) start end (h .stag) l (foundIn w number (h .stag))) l)
       l
 
   source-in-lands : (w : Window) (r : ReadRequest) (s : Span) → Lands p (sourceIn w r s) n
@@ -417,17 +417,17 @@ module _ (p : Part) (n : ℕ) where
   source-in-lands w r Outside = tt
   source-in-lands w r (Inside place) = pick-lands (mayRead w) (Read r) (VerdictRefused noReadRight) tt tt
 
-  source-lands : (ws : List Window) (r : ReadRequest) (f : Found) → Lands p (sourceOf ws r f) n
-  source-lands ws r Foreign = tt
-  source-lands ws r Missing = tt
-  source-lands ws r (Slot slot) = source-in-lands (windowAt ws slot) r (spanned (windowAt ws slot) (r .«source_to») (r .size))
+  source-lands : (w : Window) (r : ReadRequest) (f : Found) → Lands p (sourceOf w r f) n
+  source-lands w r Foreign = tt
+  source-lands w r Missing = tt
+  source-lands w r (Slot slot) = source-in-lands w r (spanned w (r .«source_to») (r .size))
 
-  read-lands : (ws : List Window) (number : ℕ) (last : Bool) (payload : List ℕ) → Lands p (readVerdict ws number last payload) n
+  read-lands : (w : Window) (number : ℕ) (last : Bool) (payload : List ℕ) → Lands p (readVerdict w number last payload) n
   unfolding readVerdict
-  read-lands ws number last payload =
+  read-lands w number last payload =
       pick-lands (both last (eqb (length payload) 28))
-      (sourceOf ws (requestAt payload) (found ws number (requestAt payload .«source_stag»))) (VerdictRefused malformed)
-      (source-lands ws (requestAt payload) (found ws number (requestAt payload .«source_stag»))) tt
+      (sourceOf w (requestAt payload) (foundIn w number (requestAt payload .«source_stag»))) (VerdictRefused malformed)
+      (source-lands w (requestAt payload) (foundIn w number (requestAt payload .«source_stag»))) tt
 
   terminate-lands : (last : Bool) (payload : List ℕ) → Lands p (terminateVerdict last payload) n
   unfolding terminateVerdict
@@ -437,9 +437,9 @@ module _ (p : Part) (n : ℕ) where
 
   -- a segment that queue 0 takes: a buffer waits, and the payload ends within it
   untagged-fits :
-      (s : Stream) (msn mo start end : ℕ) → untaggedOf (queuesOf s) 0 msn mo n ≡ UntaggedAt start end →
+      (s : Stream) (msn mo start end : ℕ) → untaggedOf (queueOf s 0) 0 msn mo n ≡ UntaggedAt start end →
       (0 < s .sends .buffers .count) × (start + n ≤ getD (s .sends .buffers .entries) 0 noBuffer .len)
-  unfolding untaggedOf untaggedIn queuesOf
+  unfolding untaggedOf untaggedIn queueOf
   untagged-fits s msn mo start end e =
       go (eqb msn (s .sends .msn)) (ltb 0 (s .sends .buffers .count)) refl (eqb mo (s .sends .taken)) (leb (mo + n) (getD (s .sends .buffers .entries) 0 noBuffer .len)) refl e
     where
@@ -456,34 +456,34 @@ module _ (p : Part) (n : ℕ) where
           let same : mo ≡ start = cc in
           (ltb-true 0 (s .sends .buffers .count) f, omega (arith, leb-true (mo + n) (getD (s .sends .buffers .entries) 0 noBuffer .len) g))
 
-  module _ (ws : List Window) (number : ℕ) (s : Stream) (k : BuffersIn p (s .sends .buffers)) (h : UntaggedHeader) (payload : List ℕ) where
+  module _ (w : Window) (number : ℕ) (s : Stream) (k : BuffersIn p (s .sends .buffers)) (h : UntaggedHeader) (payload : List ℕ) where
     message-lands :
-        (start end : ℕ) → untaggedOf (queuesOf s) (h .qn) (h .msn) (h .mo) n ≡ UntaggedAt start end →
-        Lands p (messageVerdict ws number (s .sends) h start end payload) n
+        (start end : ℕ) → untaggedOf (queueOf s (h .qn)) (h .qn) (h .msn) (h .mo) n ≡ UntaggedAt start end →
+        Lands p (messageVerdict w number (currentBuffer (s .sends)) h start end payload) n
     unfolding messageVerdict
     message-lands start end e = go (eqb (h .qn) 0) refl
       where
         first : eqb (h .qn) 0 ≡ true → Lies p (getD (s .sends .buffers .entries) 0 noBuffer .start + start) n
         first q =
-            let z = untagged-fits s (h .msn) (h .mo) start end (subst (λ (m : ℕ). untaggedOf (queuesOf s) m (h .msn) (h .mo) n ≡ UntaggedAt start end) (eqb-true (h .qn) 0 q) e) in
+            let z = untagged-fits s (h .msn) (h .mo) start end (subst (λ (m : ℕ). untaggedOf (queueOf s m) m (h .msn) (h .mo) n ≡ UntaggedAt start end) (eqb-true (h .qn) 0 q) e) in
             let b = k 0 (z .0) in
             (omega (arith, b .0), omega (arith, b .1, z .1))
 
         go :
             (t : Bool) → eqb (h .qn) 0 ≡ t →
             Lands p
-            (pick t (sendVerdict ws number (getD (s .sends .buffers .entries) 0 noBuffer) h start end)
-            (pick (eqb (h .qn) 1) (readVerdict ws number (h .last) payload) (terminateVerdict (h .last) payload)))
+            (pick t (sendVerdict w number (getD (s .sends .buffers .entries) 0 noBuffer) h start end)
+            (pick (eqb (h .qn) 1) (readVerdict w number (h .last) payload) (terminateVerdict (h .last) payload)))
             n
-        go true q = send-lands ws number (getD (s .sends .buffers .entries) 0 noBuffer) h start end (first q)
+        go true q = send-lands w number (getD (s .sends .buffers .entries) 0 noBuffer) h start end (first q)
         go false q =
-            pick-lands (eqb (h .qn) 1) (readVerdict ws number (h .last) payload) (terminateVerdict (h .last) payload)
-            (read-lands ws number (h .last) payload) (terminate-lands (h .last) payload)
+            pick-lands (eqb (h .qn) 1) (readVerdict w number (h .last) payload) (terminateVerdict (h .last) payload)
+            (read-lands w number (h .last) payload) (terminate-lands (h .last) payload)
 
-    untagged-lands : (u : Untagged) → untaggedOf (queuesOf s) (h .qn) (h .msn) (h .mo) n ≡ u → Lands p (untaggedVerdict ws number (s .sends) h payload u) n
+    untagged-lands : (u : Untagged) → untaggedOf (queueOf s (h .qn)) (h .qn) (h .msn) (h .mo) n ≡ u → Lands p (untaggedVerdict w number (s .sends .opcode) (currentBuffer (s .sends)) h payload u) n
     untagged-lands (UntaggedRefused r) e = tt
     untagged-lands (UntaggedAt start end) e =
-        after-lands (controlled (h .control) (fitsQueue (h .qn) (s .sends .opcode) (opcodeOf (h .control)))) (messageVerdict ws number (s .sends) h start end payload)
+        after-lands (controlled (h .control) (fitsQueue (h .qn) (s .sends .opcode) (opcodeOf (h .control)))) (messageVerdict w number (currentBuffer (s .sends)) h start end payload)
         (message-lands start end e)
 
 -- in a sound domain a segment that was read is judged to go into the part, or nowhere
@@ -499,8 +499,8 @@ module _ (d : Domain) (k : Sound d) (number slot : ℕ) (h : slot < 4) (input : 
       (sym (length-part input start len (inside (streamAt d slot .framing .crc) input (TaggedSegment total t start len) e)))
       (write-lands (d .part) len w number (t .stag) (t .to) (t .control) (k .windowed (slotNamed (t .stag))) (taggedOf w number (t .stag) (t .to) len) refl)
   judged-lands (UntaggedSegment total t start len) e =
-      untagged-lands (d .part) (length (part input start len)) (d .windows) number (streamAt d slot) (k .waiting slot h .inside) t (part input start len)
-      (untaggedOf (queuesOf (streamAt d slot)) (t .qn) (t .msn) (t .mo) (length (part input start len))) refl
+      untagged-lands (d .part) (length (part input start len)) (windowAt (d .windows) (slotNamed (stagNamed t (part input start len)))) number (streamAt d slot) (k .waiting slot h .inside) t (part input start len)
+      (untaggedOf (queueOf (streamAt d slot) (t .qn)) (t .qn) (t .msn) (t .mo) (length (part input start len))) refl
 
   module _ (bytes : List ℕ) (long : length bytes ≡ d .part .end - d .part .start) where
     segment-whole :

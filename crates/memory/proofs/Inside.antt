@@ -12,7 +12,7 @@ use lib.Dec.{leb, ltb, eqb}
 use borrow.Author.Tests.{leb-true, ltb-true, eqb-false}
 use Rattle.wire.specs.Wire.{pick, both}
 use Rattle.memory.specs.Part.{inPart}
-use Rattle.memory.specs.Window.{noWindow, windowAt, inRange, windowFits, refusing, entering, registered, deadOf, dropped, named, slotNamed, foundIn, wraps, within, spanned}
+use Rattle.memory.specs.Window.{noWindow, windowAt, inRange, windowFits, keeping, refusing, entering, registeredIn, registered, deadOf, droppedIn, dropped, named, slotNamed, foundIn, wraps, within, spanned}
 use Rattle.memory.specs.Buffer.{noBuffer, appended, posted, firstOf, poppedOf}
 use Rattle.memory.specs.declared.part.Part.{Part}
 use Rattle.memory.specs.declared.part.Outcome.the-variants.{Done, Refused}
@@ -21,6 +21,7 @@ use Rattle.memory.specs.declared.buffer.Buffers.{Buffers}
 use Rattle.memory.specs.declared.buffer.Posted.{Posted}
 use Rattle.memory.specs.declared.buffer.FirstBuffer.the-variants.{Waiting, NoneWaiting}
 use Rattle.memory.specs.declared.window.Window.{Window}
+use Rattle.memory.specs.declared.window.WindowDone.{WindowDone}
 use Rattle.memory.specs.declared.window.Found.{Found}
 use Rattle.memory.specs.declared.window.Found.the-variants.{Slot, Foreign, Missing}
 use Rattle.memory.specs.declared.window.Span.{Span}
@@ -62,28 +63,44 @@ fits-lies p place base len e = part-lies p place len (both-left (inPart p place 
 abbrev liveOf : ℕ → ℕ → ℕ → ℕ → ℕ → Window
 liveOf key base len place rights = record { live = true; key = key; rights = rights; place = place; len = len; base = base }
 
-pub registered-in : (p : Part) (ws : List Window) (slot key base len place rights : ℕ) → WindowsIn p ws → WindowsIn p (registered ws p slot key base len place rights .windows)
-unfolding registered
-registered-in p ws slot key base len place rights all =
-    go (inRange slot key rights) (windowAt ws slot .live) (eqb key (windowAt ws slot .key)) (windowFits p place base len) refl
+-- one window registered or dropped; a refusal leaves it as it was
+pub registered-one : (p : Part) (w : Window) (key base len place rights : ℕ) → WindowIn p w → WindowIn p (registeredIn w p key base len place rights .window)
+unfolding registeredIn
+registered-one p w key base len place rights one =
+    go (inRange key rights) (w .live) (eqb key (w .key)) (windowFits p place base len) refl
   where
     go :
         (a b c d : Bool) → windowFits p place base len ≡ d →
-        WindowsIn p (pick a (pick b (refusing ws 6) (pick c (refusing ws 8) (pick d (entering ws slot (liveOf key base len place rights)) (refusing ws 9)))) (refusing ws 1) .windows)
-    go false b c d e = all
-    go true true c d e = all
-    go true false true d e = all
-    go true false false false e = all
-    go true false false true e = set-in p ws slot (liveOf key base len place rights) all (λ l. fits-lies p place base len e)
+        WindowIn p (pick a (pick b (keeping w 6) (pick c (keeping w 8) (pick d (record { outcome = Done; window = liveOf key base len place rights }) (keeping w 9)))) (keeping w 1) .window)
+    go false b c d e = one
+    go true true c d e = one
+    go true false true d e = one
+    go true false false false e = one
+    go true false false true e = λ l. fits-lies p place base len e
+
+pub dropped-one : (p : Part) (w : Window) → WindowIn p w → WindowIn p (droppedIn w .window)
+unfolding droppedIn
+dropped-one p w one = go (w .live)
+  where
+    go : (a : Bool) → WindowIn p (pick {A = WindowDone} a (record { outcome = Done; window = deadOf w }) (keeping w 7) .window)
+    go false = one
+    go true = λ l. let no : _≡_ {A = ℕ} 0 1 = cc in absurd (omega arith)
+
+-- and put in its slot
+entered-in : (p : Part) (ws : List Window) (slot : ℕ) (r : WindowDone) (t : Bool) → WindowsIn p ws → WindowIn p (r .window) → WindowsIn p (pick t (entering ws slot r) (refusing ws 1) .windows)
+entered-in p ws slot r true all one = set-in p ws slot (r .window) all one
+entered-in p ws slot r false all one = all
+
+pub registered-in : (p : Part) (ws : List Window) (slot key base len place rights : ℕ) → WindowsIn p ws → WindowsIn p (registered ws p slot key base len place rights .windows)
+unfolding registered
+registered-in p ws slot key base len place rights all =
+    entered-in p ws slot (registeredIn (windowAt ws slot) p key base len place rights) (leb slot 15) all
+    (registered-one p (windowAt ws slot) key base len place rights (all slot))
 
 pub dropped-in : (p : Part) (ws : List Window) (slot : ℕ) → WindowsIn p ws → WindowsIn p (dropped ws slot .windows)
 unfolding dropped
-dropped-in p ws slot all = go (leb slot 15) (windowAt ws slot .live)
-  where
-    go : (a b : Bool) → WindowsIn p (pick a (pick b (entering ws slot (deadOf (windowAt ws slot))) (refusing ws 7)) (refusing ws 1) .windows)
-    go false b = all
-    go true false = all
-    go true true = set-in p ws slot (deadOf (windowAt ws slot)) all (λ l. let no : _≡_ {A = ℕ} 0 1 = cc in absurd (omega arith))
+dropped-in p ws slot all =
+    entered-in p ws slot (droppedIn (windowAt ws slot)) (leb slot 15) all (dropped-one p (windowAt ws slot) (all slot))
 
 -- what is inside a window
 pub span-in : (w : Window) (to len at : ℕ) → spanned w to len ≡ Inside at → (w .place ≤ at) × (at + len ≤ w .place + w .len)

@@ -58,28 +58,24 @@ window-bound p place base len e =
     part-bound p place len (both-left (inPart p place len) (leb (base + len) 18446744073709551615) e)
 
 -- what is in range is below its limit
-module _ (slot key rights : ℕ) (e : inRange slot key rights ≡ true) where
+module _ (key rights : ℕ) (e : inRange key rights ≡ true) where
   keyIn : Bool
   keyIn = both (leb 1 key) (leb key 255)
 
   rightsIn : Bool
   rightsIn = both (leb 1 rights) (leb rights 3)
 
-  others : both keyIn rightsIn ≡ true
+  halves : both keyIn rightsIn ≡ true
   unfolding inRange keyIn rightsIn
-  others = both-right (leb slot 15) (both keyIn rightsIn) e
-
-  pub slot-bound : slot ≤ 15
-  unfolding inRange
-  slot-bound = leb-true _ _ (both-left (leb slot 15) (both (both (leb 1 key) (leb key 255)) (both (leb 1 rights) (leb rights 3))) e)
+  halves = e
 
   pub key-bound : key ≤ 255
   unfolding keyIn
-  key-bound = leb-true _ _ (both-right (leb 1 key) (leb key 255) (both-left keyIn rightsIn others))
+  key-bound = leb-true _ _ (both-right (leb 1 key) (leb key 255) (both-left keyIn rightsIn halves))
 
   pub rights-bound : rights ≤ 3
   unfolding rightsIn
-  rights-bound = leb-true _ _ (both-right (leb 1 rights) (leb rights 3) (both-right keyIn rightsIn others))
+  rights-bound = leb-true _ _ (both-right (leb 1 rights) (leb rights 3) (both-right keyIn rightsIn halves))
 
 -- one window more, and none
 module _ (ws : List Window) (i : ℕ) where

@@ -10,6 +10,7 @@ use Rattle.memory.specs.declared.part.Part.{Part}
 use Rattle.memory.specs.declared.part.Outcome.the-variants.{Done, Refused}
 use Rattle.memory.specs.declared.window.Window.{Window}
 use Rattle.memory.specs.declared.window.Registered.{Registered}
+use Rattle.memory.specs.declared.window.WindowDone.{WindowDone}
 use Rattle.memory.specs.declared.window.Found.{Found}
 use Rattle.memory.specs.declared.window.Found.the-variants.{Slot, Foreign, Missing}
 use Rattle.memory.specs.declared.window.Span.{Span}
@@ -22,44 +23,55 @@ noWindow = record { live = false; key = 0; rights = 0; place = 0; len = 0; base 
 abbrev pub windowAt : List Window → ℕ → Window
 windowAt windows slot = getD windows slot noWindow
 
--- "a key (1 to 255)", "rights: 1 write, 2 read, 3 both", a slot of the sixteen
-unfoldable pub inRange : ℕ → ℕ → ℕ → Bool
-inRange slot key rights =
-    both (leb slot 15) (both (both (leb 1 key) (leb key 255)) (both (leb 1 rights) (leb rights 3)))
+-- "a key (1 to 255)", "rights: 1 write, 2 read, 3 both"
+unfoldable pub inRange : ℕ → ℕ → Bool
+inRange key rights = both (both (leb 1 key) (leb key 255)) (both (leb 1 rights) (leb rights 3))
+
+-- a refusal: the window is as it was
+abbrev pub keeping : Window → ℕ → WindowDone
+keeping w number = record { outcome = Refused number; window = w }
 
 -- a refusal: nothing changes
 abbrev pub refusing : List Window → ℕ → Registered
 refusing windows number = record { outcome = Refused number; windows = windows }
 
--- done: one entry changed
-abbrev pub entering : List Window → ℕ → Window → Registered
-entering windows slot w = record { outcome = Done; windows = set windows slot w }
+-- what was done with the window of a slot, put in its entry
+abbrev pub entering : List Window → ℕ → WindowDone → Registered
+entering windows slot r = record { outcome = r .outcome; windows = set windows slot (r .window) }
 
 -- "a length from 1, a place in its domain's part"; "Base + length is at most 2^64 − 1"
 unfoldable pub windowFits : Part → ℕ → ℕ → ℕ → Bool
 windowFits part place base len = both (inPart part place len) (leb (base + len) 18446744073709551615)
 
--- registering: 1 a number, key or right out of its range; 6 window live; 8 key equals the last key this window had; 9 place, length or base + length
+-- registering in a window: 1 a key or right out of its range; 6 window live; 8 key equals the last key this window had; 9 place, length or base + length
+unfoldable pub registeredIn : Window → Part → ℕ → ℕ → ℕ → ℕ → ℕ → WindowDone
+registeredIn w part key base len place rights =
+    pick (inRange key rights)
+    (pick (w .live) (keeping w 6)
+    (pick (eqb key (w .key)) (keeping w 8)
+    (pick (windowFits part place base len)
+    (record { outcome = Done; window = record { live = true; key = key; rights = rights; place = place; len = len; base = base } })
+    (keeping w 9))))
+    (keeping w 1)
+
+-- registering in a slot of the sixteen: 1 a number out of its range
 unfoldable pub registered : List Window → Part → ℕ → ℕ → ℕ → ℕ → ℕ → ℕ → Registered
 registered windows part slot key base len place rights =
-    pick (inRange slot key rights)
-    (pick (windowAt windows slot .live) (refusing windows 6)
-    (pick (eqb key (windowAt windows slot .key)) (refusing windows 8)
-    (pick (windowFits part place base len)
-    (entering windows slot (record { live = true; key = key; rights = rights; place = place; len = len; base = base }))
-    (refusing windows 9))))
+    pick (leb slot 15)
+    (entering windows slot (registeredIn (windowAt windows slot) part key base len place rights))
     (refusing windows 1)
 
 -- a dead window keeps its last key
 abbrev pub deadOf : Window → Window
 deadOf w = record { live = false; key = w .key; rights = 0; place = 0; len = 0; base = 0 }
 
--- dropping: 1 a number out of its range; 7 window not live
+-- dropping a window: 7 window not live
+unfoldable pub droppedIn : Window → WindowDone
+droppedIn w = pick (w .live) (record { outcome = Done; window = deadOf w }) (keeping w 7)
+
+-- dropping the window of a slot: 1 a number out of its range
 unfoldable pub dropped : List Window → ℕ → Registered
-dropped windows slot =
-    pick (leb slot 15)
-    (pick (windowAt windows slot .live) (entering windows slot (deadOf (windowAt windows slot))) (refusing windows 7))
-    (refusing windows 1)
+dropped windows slot = pick (leb slot 15) (entering windows slot (droppedIn (windowAt windows slot))) (refusing windows 1)
 
 -- "how many windows of a domain are live"
 unfoldable pub liveCount : List Window → ℕ
@@ -85,9 +97,6 @@ foundIn w domain stag =
     pick (leb (stag / 256) 63)
     (pick (eqb (stag / 256 / 16) domain) (pick (named w (stag % 256)) (Slot (slotNamed stag)) Missing) Foreign)
     Missing
-
-abbrev pub found : List Window → ℕ → ℕ → Found
-found windows domain stag = foundIn (windowAt windows (slotNamed stag)) domain stag
 
 -- 26: "TO + payload above 2^64"
 unfoldable pub wraps : ℕ → ℕ → Bool

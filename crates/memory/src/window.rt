@@ -1,7 +1,7 @@
 // Windows: the tagged buffers of a domain, sixteen by value, one entry changed at a time.
 ghost use mathlib.Core.Path.{_≡_};
 ghost use Prim.Native.Nat.{_<_};
-ghost use Rattle.memory.specs.Window.{inRange, windowFits, refusing, entering, registered, dropped, liveCount, lowestFree, named, slotNamed, foundIn, found, wraps, spanned};
+ghost use Rattle.memory.specs.Window.{inRange, windowFits, keeping, refusing, entering, registeredIn, registered, droppedIn, dropped, liveCount, lowestFree, named, slotNamed, foundIn, wraps, spanned};
 use crate::part::Outcome;
 use crate::part::Part;
 use crate::part::inside;
@@ -20,6 +20,12 @@ pub struct Window {
     pub place: u32,
     pub len: u32,
     pub base: u64,
+}
+
+// What a call answers, and the window after it.
+pub struct WindowDone {
+    pub outcome: Outcome,
+    pub window: Window,
 }
 
 // What a call answers, and the domain's windows after it.
@@ -42,13 +48,10 @@ pub enum Span {
     Outside,
 }
 
-// Whether slot, key and rights are in their ranges.
-fn in_range(slot: u64, key: u64, rights: u64) -> bool
-    ensures { λ r. ⌜ r ≡ inRange slot key rights ⌝ }
+// Whether key and rights are in their ranges.
+fn in_range(key: u64, rights: u64) -> bool
+    ensures { λ r. ⌜ r ≡ inRange key rights ⌝ }
 {
-    if 15 < slot {
-        return false;
-    }
     if key == 0 {
         return false;
     }
@@ -71,6 +74,16 @@ fn window_fits(part: Part, place: u64, base: u64, len: u64) -> bool
     false
 }
 
+// A refusal: the window is as it was.
+fn kept(w: Window, number: u8) -> WindowDone
+    ensures { λ r. ⌜ r ≡ keeping w number ⌝ }
+{
+    WindowDone {
+        outcome: Outcome::Refused(number),
+        window: w,
+    }
+}
+
 // A refusal: the windows are as they were.
 fn refused(windows: [Window; 16], number: u8) -> Registered
     ensures { λ r. ⌜ r ≡ refusing windows number ⌝ }
@@ -81,20 +94,60 @@ fn refused(windows: [Window; 16], number: u8) -> Registered
     }
 }
 
-// Done: the windows with one entry changed.
-fn entered(windows: [Window; 16], slot: usize, w: Window) -> Registered
+// The windows with what was done in one of them put in its slot.
+fn entered(windows: [Window; 16], slot: usize, done: WindowDone) -> Registered
     requires { ⌜ slot < 16 ⌝ }
-    ensures { λ r. ⌜ r ≡ entering windows slot w ⌝ }
+    ensures { λ r. ⌜ r ≡ entering windows slot done ⌝ }
 {
+    let outcome = done.outcome;
+    let w = done.window;
     let mut next = windows;
     next[slot] = w;
     Registered {
-        outcome: Outcome::Done,
+        outcome,
         windows: next,
     }
 }
 
-// Registers a window of a slot.
+// Registers the window w.
+pub fn register_in(
+    w: Window,
+    part: Part,
+    key: u64,
+    base: u64,
+    len: u64,
+    place: u64,
+    rights: u64,
+) -> WindowDone
+    ensures { λ r. ⌜ r ≡ registeredIn w part key base len place rights ⌝ }
+{
+    if in_range(key, rights) {
+        if w.live {
+            return kept(w, WINDOW_LIVE);
+        }
+        if key == w.key as u64 {
+            return kept(w, KEY_AGAIN);
+        }
+        if window_fits(part, place, base, len) {
+            let new = Window {
+                live: true,
+                key: key as u8,
+                rights: rights as u8,
+                place: place as u32,
+                len: len as u32,
+                base,
+            };
+            return WindowDone {
+                outcome: Outcome::Done,
+                window: new,
+            };
+        }
+        return kept(w, BAD_PLACE);
+    }
+    kept(w, OUT_OF_RANGE)
+}
+
+// Registers the window of a slot.
 pub fn register(
     windows: [Window; 16],
     part: Part,
@@ -107,32 +160,36 @@ pub fn register(
 ) -> Registered
     ensures { λ r. ⌜ r ≡ registered windows part slot key base len place rights ⌝ }
 {
-    if in_range(slot, key, rights) {
-        let i = slot as usize;
-        let old = windows[i];
-        if old.live {
-            return refused(windows, WINDOW_LIVE);
-        }
-        if key == old.key as u64 {
-            return refused(windows, KEY_AGAIN);
-        }
-        if window_fits(part, place, base, len) {
-            let new = Window {
-                live: true,
-                key: key as u8,
-                rights: rights as u8,
-                place: place as u32,
-                len: len as u32,
-                base,
-            };
-            return entered(windows, i, new);
-        }
-        return refused(windows, BAD_PLACE);
+    if 15 < slot {
+        return refused(windows, OUT_OF_RANGE);
     }
-    refused(windows, OUT_OF_RANGE)
+    let i = slot as usize;
+    let done = register_in(windows[i], part, key, base, len, place, rights);
+    entered(windows, i, done)
 }
 
-// Drops the window of a slot: it is dead, and its key is kept.
+// Drops the window w: it is dead, and its key is kept.
+pub fn drop_in(w: Window) -> WindowDone
+    ensures { λ r. ⌜ r ≡ droppedIn w ⌝ }
+{
+    if w.live {
+        let dead = Window {
+            live: false,
+            key: w.key,
+            rights: 0,
+            place: 0,
+            len: 0,
+            base: 0,
+        };
+        return WindowDone {
+            outcome: Outcome::Done,
+            window: dead,
+        };
+    }
+    kept(w, WINDOW_NOT_LIVE)
+}
+
+// Drops the window of a slot.
 pub fn drop_window(windows: [Window; 16], slot: u64) -> Registered
     ensures { λ r. ⌜ r ≡ dropped windows slot ⌝ }
 {
@@ -140,19 +197,8 @@ pub fn drop_window(windows: [Window; 16], slot: u64) -> Registered
         return refused(windows, OUT_OF_RANGE);
     }
     let i = slot as usize;
-    let old = windows[i];
-    if old.live {
-        let dead = Window {
-            live: false,
-            key: old.key,
-            rights: 0,
-            place: 0,
-            len: 0,
-            base: 0,
-        };
-        return entered(windows, i, dead);
-    }
-    refused(windows, WINDOW_NOT_LIVE)
+    let done = drop_in(windows[i]);
+    entered(windows, i, done)
 }
 
 // How many windows are live.
@@ -223,14 +269,6 @@ pub fn find_in(w: Window, domain: u64, stag: u32) -> Found
         return Found::Foreign;
     }
     Found::Missing
-}
-
-// The window of a domain that an STag names.
-pub fn find(windows: [Window; 16], domain: u64, stag: u32) -> Found
-    ensures { λ r. ⌜ r ≡ found windows domain stag ⌝ }
-{
-    let slot = slot_named(stag);
-    find_in(windows[slot], domain, stag)
 }
 
 // Whether to + len is above 2^64.

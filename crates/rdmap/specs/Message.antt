@@ -1,11 +1,11 @@
 -- Messages: what a segment that DDP let pass is judged to be, by rules 33 to 38 in their order.
 use Prim.Native.Nat.{ℕ, _+_, _/_, _%_}
 use mathlib.Core.Bool.{Bool, true, false}
-use mathlib.Core.List.{List, [], _∷_}
+use mathlib.Core.List.{List}
 use lib.ListN.{length, getD}
 use lib.Dec.{leb, ltb, eqb}
-use Rattle.wire.specs.Wire.{pick, both, part}
-use Rattle.memory.specs.Window.{windowAt, found, spanned}
+use Rattle.wire.specs.Wire.{pick, both, be32At}
+use Rattle.memory.specs.Window.{foundIn, spanned}
 use Rattle.ddp.specs.Tagged.{taggedOf}
 use Rattle.ddp.specs.Untagged.{untaggedOf}
 use Rattle.memory.specs.declared.buffer.Buffer.{Buffer}
@@ -22,7 +22,7 @@ use Rattle.memory.specs.declared.window.Found.{Found}
 use Rattle.memory.specs.declared.window.Found.the-variants.{Slot, Foreign, Missing}
 use Rattle.memory.specs.declared.window.Span.{Span}
 use Rattle.memory.specs.declared.window.Span.the-variants.{Inside, Wrap, Outside}
-use Rattle.rdmap.specs.Sends.{currentBuffer, sendQueue}
+use Rattle.rdmap.specs.Sends.{sendQueue}
 use Rattle.rdmap.specs.Read.{requestAt, readQueue}
 use Rattle.rdmap.specs.Terminates.{terminateQueue}
 use Rattle.rdmap.specs.Refusal.{rdmapVersion, unexpectedOpcode, noWriteRight, invalidateForeign, invalidateMissing, malformed, sourceForeign, sourceMissing, sourceWrap, sourceBounds, noReadRight}
@@ -33,7 +33,6 @@ use Rattle.rdmap.specs.declared.message.Invalidate.the-variants.{NoStag,
 use Rattle.rdmap.specs.declared.message.Verdict.{Verdict}
 use Rattle.rdmap.specs.declared.message.Verdict.the-variants.{Refused, Nothing, Write, SendMore, SendLast, Read, Terminate}
 use Rattle.rdmap.specs.declared.read.ReadRequest.{ReadRequest}
-use Rattle.rdmap.specs.declared.sends.Sends.{Sends}
 use Rattle.rdmap.specs.declared.stream.Stream.{Stream}
 
 -- "RDMAP control: version in the top two bits, which is 1; opcode in the low four"
@@ -68,6 +67,10 @@ writeVerdict w control (TaggedAt place) =
 
 -- ---- untagged segments
 
+-- the STag that an untagged segment names: a Read Request's source STag, else the header's. It is judged by the window w in the slot of it
+abbrev pub stagNamed : UntaggedHeader → List ℕ → ℕ
+stagNamed h payload = pick (both (eqb (h .qn) 1) (eqb (length payload) 28)) (be32At payload 16) (h .stag)
+
 -- "3 Send, 4 Send with Invalidate, 5 Send with SE, 6 Send with SE and Invalidate, queue 0", the same as in the message's earlier segments; "1 Read Request, queue 1"; "7 Terminate, queue 2"
 abbrev pub isSend : ℕ → Bool
 isSend opcode = both (leb 3 opcode) (leb opcode 6)
@@ -89,11 +92,11 @@ invalidated b opcode start end stag Missing = Refused invalidateMissing
 invalidated b opcode start end stag (Slot slot) = SendLast (b .start + start) opcode (b .start) end (Stag slot stag)
 
 -- a Send into the buffer b, whose payload is the message's bytes from start up to end
-unfoldable pub sendVerdict : List Window → ℕ → Buffer → UntaggedHeader → ℕ → ℕ → Verdict
-sendVerdict windows domain b h start end =
+unfoldable pub sendVerdict : Window → ℕ → Buffer → UntaggedHeader → ℕ → ℕ → Verdict
+sendVerdict w domain b h start end =
     pick (h .last)
     (pick (takesStag (opcodeOf (h .control)))
-    (invalidated b (opcodeOf (h .control)) start end (h .stag) (found windows domain (h .stag)))
+    (invalidated b (opcodeOf (h .control)) start end (h .stag) (foundIn w domain (h .stag)))
     (SendLast (b .start + start) (opcodeOf (h .control)) (b .start) end NoStag))
     (SendMore (b .start + start) (opcodeOf (h .control)) end)
 
@@ -103,16 +106,16 @@ sourceIn w r Wrap = Refused sourceWrap
 sourceIn w r Outside = Refused sourceBounds
 sourceIn w r (Inside place) = pick (mayRead w) (Read r) (Refused noReadRight)
 
-abbrev pub sourceOf : List Window → ReadRequest → Found → Verdict
-sourceOf windows r Foreign = Refused sourceForeign
-sourceOf windows r Missing = Refused sourceMissing
-sourceOf windows r (Slot slot) = sourceIn (windowAt windows slot) r (spanned (windowAt windows slot) (r .«source_to») (r .size))
+abbrev pub sourceOf : Window → ReadRequest → Found → Verdict
+sourceOf w r Foreign = Refused sourceForeign
+sourceOf w r Missing = Refused sourceMissing
+sourceOf w r (Slot slot) = sourceIn w r (spanned w (r .«source_to») (r .size))
 
 -- 37 "Read Request not 28 bytes, or L clear"
-unfoldable pub readVerdict : List Window → ℕ → Bool → List ℕ → Verdict
-readVerdict windows domain last payload =
+unfoldable pub readVerdict : Window → ℕ → Bool → List ℕ → Verdict
+readVerdict w domain last payload =
     pick (both last (eqb (length payload) 28))
-    (sourceOf windows (requestAt payload) (found windows domain (requestAt payload .«source_stag»)))
+    (sourceOf w (requestAt payload) (foundIn w domain (requestAt payload .«source_stag»)))
     (Refused malformed)
 
 -- 37 "Terminate under 4, or L clear"; "Terminate payload: layer 4 bits, type 4 bits, code 8 bits"
@@ -122,18 +125,19 @@ terminateVerdict last payload =
     (Terminate (getD payload 0 0 / 16) (getD payload 0 0 % 16) (getD payload 1 0))
     (Refused malformed)
 
--- by the queue
-unfoldable pub messageVerdict : List Window → ℕ → Sends → UntaggedHeader → ℕ → ℕ → List ℕ → Verdict
-messageVerdict windows domain sends h start end payload =
-    pick (eqb (h .qn) 0) (sendVerdict windows domain (currentBuffer sends) h start end)
-    (pick (eqb (h .qn) 1) (readVerdict windows domain (h .last) payload) (terminateVerdict (h .last) payload))
+-- by the queue; b is the buffer that is filled
+unfoldable pub messageVerdict : Window → ℕ → Buffer → UntaggedHeader → ℕ → ℕ → List ℕ → Verdict
+messageVerdict w domain b h start end payload =
+    pick (eqb (h .qn) 0) (sendVerdict w domain b h start end)
+    (pick (eqb (h .qn) 1) (readVerdict w domain (h .last) payload) (terminateVerdict (h .last) payload))
 
--- what each queue of a stream expects
-unfoldable pub queuesOf : Stream → List Queue
-queuesOf s = sendQueue (s .sends) ∷ readQueue (s .reads) ∷ terminateQueue (s .terminates) ∷ []
+-- what a queue of a stream expects
+unfoldable pub queueOf : Stream → ℕ → Queue
+queueOf s qn = pick (eqb qn 0) (sendQueue (s .sends)) (pick (eqb qn 1) (readQueue (s .reads)) (terminateQueue (s .terminates)))
 
-abbrev pub untaggedVerdict : List Window → ℕ → Sends → UntaggedHeader → List ℕ → Untagged → Verdict
-untaggedVerdict windows domain sends h payload (UntaggedRefused r) = Refused r
-untaggedVerdict windows domain sends h payload (UntaggedAt start end) =
-    after (controlled (h .control) (fitsQueue (h .qn) (sends .opcode) (opcodeOf (h .control))))
-    (messageVerdict windows domain sends h start end payload)
+-- under is the opcode of the Send under way, 0 where there is none
+abbrev pub untaggedVerdict : Window → ℕ → ℕ → Buffer → UntaggedHeader → List ℕ → Untagged → Verdict
+untaggedVerdict w domain under b h payload (UntaggedRefused r) = Refused r
+untaggedVerdict w domain under b h payload (UntaggedAt start end) =
+    after (controlled (h .control) (fitsQueue (h .qn) under (opcodeOf (h .control))))
+    (messageVerdict w domain b h start end payload)

@@ -14,16 +14,15 @@ ghost use Rattle.rdmap.specs.Message.{
   readVerdict,
   terminateVerdict,
   messageVerdict,
-  queuesOf,
   untaggedVerdict,
   after,
   isSend,
   goesOn,
   invalidated,
+  stagNamed,
 };
 ghost use Rattle.rdmap.specs.Refusal.{noWriteRight};
 ghost use Rattle.ddp.specs.Untagged.{untaggedOf};
-ghost use Rattle.memory.specs.Window.{windowAt};
 ghost use Rattle.wire.specs.Wire.{pick, both};
 ghost use lib.ListN.{length};
 use crate::read::ReadRequest;
@@ -39,8 +38,6 @@ use crate::refusal::SOURCE_FOREIGN;
 use crate::refusal::SOURCE_MISSING;
 use crate::refusal::SOURCE_WRAP;
 use crate::refusal::UNEXPECTED_OPCODE;
-use crate::sends::Sends;
-use crate::stream::Stream;
 use ddp::header::TaggedHeader;
 use ddp::header::UntaggedHeader;
 use ddp::refusal::Refusal;
@@ -51,6 +48,7 @@ use memory::buffer::Buffer;
 use memory::window::Found;
 use memory::window::Span;
 use memory::window::Window;
+use wire::number::get_be32;
 
 // Whether the control byte is valid.
 pub enum Control {
@@ -106,23 +104,6 @@ fn judge_control(control: u8, fits: bool) -> Control
     }
 }
 
-// The window of a slot; past the sixteen, one that never was live.
-fn window_of(windows: [Window; 16], slot: usize) -> Window
-    ensures { λ r. ⌜ r ≡ windowAt windows slot ⌝ }
-{
-    if slot < 16 {
-        return windows[slot];
-    }
-    Window {
-        live: false,
-        key: 0,
-        rights: 0,
-        place: 0,
-        len: 0,
-        base: 0,
-    }
-}
-
 // Judges the right to write to a window.
 fn judge_right(w: Window, place: u64) -> Verdict
     ensures { λ r. ⌜ r ≡ pick (mayWrite w) (Verdict.Write place) (Verdict.Refused noWriteRight) ⌝ }
@@ -164,6 +145,19 @@ pub fn judge_tagged_segment(w: Window, domain: u64, h: TaggedHeader, len: u64) -
     judge_write(w, h.control, tagged)
 }
 
+// The STag that an untagged segment names: a Read Request's source STag, else the header's.
+pub fn stag_named(h: UntaggedHeader, payload: &[u8]) -> u32
+    ensures { λ r. ⌜ r ≡ stagNamed h (now (payload .entry)) ⌝ }
+{
+    if h.qn == 1 {
+        if payload.len() == 28 {
+            return get_be32(payload, 16);
+        }
+        return h.stag;
+    }
+    h.stag
+}
+
 // Whether an opcode fits a queue, where a Send with the opcode under is under way (0: none).
 fn fits_queue(qn: u32, under: u8, opcode: u8) -> bool
     ensures { λ r. ⌜ r ≡ fitsQueue qn under opcode ⌝ }
@@ -195,22 +189,15 @@ fn takes_stag(opcode: u8) -> bool
 }
 
 // Judges a Send's segment into the buffer b, whose payload is the message's bytes from start up to end.
-fn judge_send(
-    windows: [Window; 16],
-    domain: u64,
-    b: Buffer,
-    h: UntaggedHeader,
-    start: u32,
-    end: u32,
-) -> Verdict
-    ensures { λ r. ⌜ r ≡ sendVerdict windows domain b h start end ⌝ }
+fn judge_send(w: Window, domain: u64, b: Buffer, h: UntaggedHeader, start: u32, end: u32) -> Verdict
+    ensures { λ r. ⌜ r ≡ sendVerdict w domain b h start end ⌝ }
 {
     let opcode = h.control % 16;
     let at = (b.start as u64) + (start as u64);
     if h.last {
         if takes_stag(opcode) {
             return judge_invalidate(
-                memory::window::find(windows, domain, h.stag),
+                memory::window::find_in(w, domain, h.stag),
                 b,
                 opcode,
                 start,
@@ -268,14 +255,13 @@ fn judge_source_in(w: Window, read: ReadRequest, span: Span) -> Verdict
 }
 
 // Judges the source of a read.
-fn judge_source(windows: [Window; 16], read: ReadRequest, found: Found) -> Verdict
-    ensures { λ r. ⌜ r ≡ sourceOf windows read found ⌝ }
+fn judge_source(w: Window, read: ReadRequest, found: Found) -> Verdict
+    ensures { λ r. ⌜ r ≡ sourceOf w read found ⌝ }
 {
     match found {
         Found::Foreign => Verdict::Refused(SOURCE_FOREIGN),
         Found::Missing => Verdict::Refused(SOURCE_MISSING),
-        Found::Slot(slot) => {
-            let w = window_of(windows, slot);
+        Found::Slot(_) => {
             let span = memory::window::span_of(w, read.source_to, read.size as u64);
             judge_source_in(w, read, span)
         }
@@ -283,14 +269,14 @@ fn judge_source(windows: [Window; 16], read: ReadRequest, found: Found) -> Verdi
 }
 
 // Judges a Read Request.
-fn judge_read(windows: [Window; 16], domain: u64, last: bool, payload: &[u8]) -> Verdict
-    ensures { λ r. ⌜ r ≡ readVerdict windows domain last (now (payload .entry)) ⌝ }
+fn judge_read(w: Window, domain: u64, last: bool, payload: &[u8]) -> Verdict
+    ensures { λ r. ⌜ r ≡ readVerdict w domain last (now (payload .entry)) ⌝ }
 {
     if last {
         if payload.len() == 28 {
             let read = request_of(payload);
-            let found = memory::window::find(windows, domain, read.source_stag);
-            return judge_source(windows, read, found);
+            let found = memory::window::find_in(w, domain, read.source_stag);
+            return judge_source(w, read, found);
         }
         return Verdict::Refused(MALFORMED);
     }
@@ -315,55 +301,45 @@ fn judge_terminate(last: bool, payload: &[u8]) -> Verdict
     Verdict::Refused(MALFORMED)
 }
 
-// Judges an untagged segment by its queue.
+// Judges an untagged segment by its queue; b is the buffer that is filled.
 fn judge_message(
-    windows: [Window; 16],
+    w: Window,
     domain: u64,
-    sends: Sends,
+    b: Buffer,
     h: UntaggedHeader,
     start: u32,
     end: u32,
     payload: &[u8],
 ) -> Verdict
-    ensures { λ r. ⌜ r ≡ messageVerdict windows domain sends h start end (now (payload .entry)) ⌝ }
+    ensures { λ r. ⌜ r ≡ messageVerdict w domain b h start end (now (payload .entry)) ⌝ }
 {
     if h.qn == 0 {
-        let b = sends.current();
-        return judge_send(windows, domain, b, h, start, end);
+        return judge_send(w, domain, b, h, start, end);
     }
     if h.qn == 1 {
-        return judge_read(windows, domain, h.last, payload);
+        return judge_read(w, domain, h.last, payload);
     }
     judge_terminate(h.last, payload)
 }
 
-// What each queue of a stream expects.
-fn queues_of(s: Stream) -> [Queue; 3]
-    ensures { λ r. ⌜ r ≡ queuesOf s ⌝ }
-{
-    let sends = s.sends;
-    let reads = s.reads;
-    let terminates = s.terminates;
-    [sends.queue(), reads.queue(), terminates.queue()]
-}
-
-// Judges an untagged segment with its payload.
+// Judges an untagged segment with its payload by w, the window in the slot that its STag names, and by
+// q, what its queue expects. A Send with the opcode under is under way (0: none), and b is filled.
 pub fn judge_untagged_segment(
-    windows: [Window; 16],
+    w: Window,
     domain: u64,
-    s: Stream,
+    q: Queue,
+    under: u8,
+    b: Buffer,
     h: UntaggedHeader,
     payload: &[u8],
 ) -> Verdict
-    ensures { λ r. ⌜ r ≡ untaggedVerdict windows domain (s .sends) h (now (payload .entry)) (untaggedOf (queuesOf s) (h .qn) (h .msn) (h .mo) (length (now (payload .entry)))) ⌝ }
+    ensures { λ r. ⌜ r ≡ untaggedVerdict w domain under b h (now (payload .entry)) (untaggedOf q (h .qn) (h .msn) (h .mo) (length (now (payload .entry)))) ⌝ }
 {
-    let queues = queues_of(s);
-    match ddp::untagged::judge_untagged(queues, h.qn, h.msn, h.mo, payload.len() as u64) {
+    match ddp::untagged::judge_untagged(q, h.qn, h.msn, h.mo, payload.len() as u64) {
         Untagged::Refused(refusal) => Verdict::Refused(refusal),
         Untagged::At { start, end } => {
-            let sends = s.sends;
-            let checked = judge_control(h.control, fits_queue(h.qn, sends.opcode, h.control % 16));
-            let further = judge_message(windows, domain, sends, h, start, end, payload);
+            let checked = judge_control(h.control, fits_queue(h.qn, under, h.control % 16));
+            let further = judge_message(w, domain, b, h, start, end, payload);
             unless_refused(checked, further)
         }
     }

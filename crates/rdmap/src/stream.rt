@@ -18,6 +18,7 @@ ghost use Rattle.rdmap.specs.Stream.{
   sentOn,
   queuedOn,
 };
+ghost use Rattle.rdmap.specs.Message.{queueOf};
 use crate::framing::Framing;
 use crate::framing::new_framing;
 use crate::framing::no_framing;
@@ -33,6 +34,7 @@ use crate::sends::empty_sends;
 use crate::terminates::Terminates;
 use crate::terminates::empty_terminates;
 use ddp::refusal::Refusal;
+use ddp::untagged::Queue;
 use memory::part::Outcome;
 use memory::part::Part;
 
@@ -88,7 +90,7 @@ pub fn closed_stream() -> Stream
 }
 
 // A stream that was just opened.
-fn opened_stream(crc: bool) -> Stream
+pub fn opened_stream(crc: bool) -> Stream
     ensures { λ r. ⌜ r ≡ openedStream crc ⌝ }
 {
     Stream {
@@ -218,6 +220,22 @@ impl Stream {
             answer: TakeAnswer::Read(first),
             stream: self.with_reads(reads.popped()),
         }
+    }
+
+    // What the queue qn expects.
+    pub fn queue_of(self, qn: u32) -> Queue
+        ensures { λ r. ⌜ r ≡ queueOf self qn ⌝ }
+    {
+        if qn == 0 {
+            let sends = self.sends;
+            return sends.queue();
+        }
+        if qn == 1 {
+            let reads = self.reads;
+            return reads.queue();
+        }
+        let terminates = self.terminates;
+        terminates.queue()
     }
 
     // Ends the stream by a refusal of the peer's bytes.

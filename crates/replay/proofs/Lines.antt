@@ -11,8 +11,7 @@ use Rattle.rnic.specs.declared.Rnic.{Rnic}
 use Rattle.request.specs.Request.{Request, callBy, askedOf, Says}
 use Rattle.request.specs.Request.Request.{call, fill, text}
 use Rattle.request.specs.declared.Asked.{Asked}
-use Rattle.replay.specs.Run.{stateAfter, storeThen}
-use Rattle.replay.specs.declared.run.State.{State}
+use Rattle.replay.specs.Run.{State, stateAfter, storeThen}
 
 -- as many elements as are asked for and there
 take-min : (n : ℕ) (l : List ℕ) → take (min n (length l)) l ≡ take n l

@@ -6,10 +6,21 @@ use lib.ListN.{length, take, drop}
 use lib.Dec.{leb}
 use Rattle.wire.specs.Wire.{pick, put}
 use Rattle.rnic.specs.Rnic.{openedRnic}
+use Rattle.rnic.specs.declared.Rnic.{Rnic}
+use Rattle.block.specs.Device.{rnicAt}
 use Rattle.calls.specs.Call.{called, calledStore}
 use Rattle.request.specs.Request.{Request, requestOf}
 use Rattle.request.specs.Request.Request.{call, fill, text}
-use Rattle.replay.specs.declared.run.State.{State}
+
+-- what a run holds besides the store: the device, and the LENGTH of the last `open`, which is how many of the store's bytes a line lends
+-- that does not say
+pub record State : Type 0 where
+  pub kept : ℕ
+  pub rnic : Rnic
+
+-- with the device that a block of words holds
+abbrev pub stateAt : ℕ → List ℕ → State
+stateAt kept words = record { kept = kept; rnic = rnicAt words }
 
 -- "Before the first `open` the device is as a refused opening leaves it", and nothing is lent
 abbrev pub firstState : State

@@ -1,5 +1,6 @@
 // The script's bytes, read in chunks and parted into lines.
-use super::run::State;
+use super::output::flush;
+use super::run::Run;
 use super::run::first_state;
 use super::run::run_line;
 use libc::STDERR_FILENO;
@@ -16,9 +17,9 @@ struct Chunk {
     count: usize,
 }
 
-// The state after the lines so far, and how many bytes of the next line are in.
+// The LENGTH of the last `open` of the lines so far, and how many bytes of the next line are in.
 struct Reached {
-    state: State,
+    kept: u64,
     count: usize,
 }
 
@@ -45,30 +46,39 @@ fn add_bytes(line: &mut [u8], count: usize, more: &[u8]) -> usize
     line.len() + 1
 }
 
-// Takes every byte of a chunk, and runs each line that it ends.
+// Takes every byte of a chunk, runs each line that it ends, and writes their answers.
 fn take_chunk(
     start: Reached,
+    device: &mut [u64; 933],
     chunk: &[u8],
     line: &mut [u8],
     bytes: &mut [u8],
     frame: &mut [u8],
     store: &mut [u8],
     text: &mut [u8],
+    out: &mut [u8],
 ) -> Reached {
-    let mut state = start.state;
+    let mut run = Run {
+        kept: start.kept,
+        gathered: 0,
+    };
     let mut count = start.count;
     let mut i = 0;
     while i < chunk.len() {
         let end = line_end(chunk, i);
         count = add_bytes(line, count, &chunk[i..end]);
         if end == chunk.len() {
-            return Reached { state, count };
+            break;
         }
         i = end + 1;
-        state = run_line(state, line, count, bytes, frame, store, text);
+        run = run_line(run, device, line, count, bytes, frame, store, text, out);
         count = 0;
     }
-    Reached { state, count }
+    flush(out, run.gathered);
+    Reached {
+        kept: run.kept,
+        count,
+    }
 }
 
 // Reads some of the script into the chunk.
@@ -86,16 +96,18 @@ fn read_chunk(chunk: &mut [u8]) -> Chunk
 // Runs the whole script. A proved loop has to end, and nothing says that the input does: so the loop
 // counts its turns down, from a number that no run uses up.
 pub fn run_script(
+    device: &mut [u64; 933],
     chunk: &mut [u8],
     line: &mut [u8],
     bytes: &mut [u8],
     frame: &mut [u8],
     store: &mut [u8],
     text: &mut [u8],
+    out: &mut [u8],
 ) {
     let mut turns = u64::MAX;
     let mut reached = Reached {
-        state: first_state(),
+        kept: first_state(device),
         count: 0,
     };
     while turns > 0 {
@@ -106,26 +118,43 @@ pub fn run_script(
         }
         let n = got.count;
         if n == 0 {
-            run_rest(reached, line, bytes, frame, store, text);
+            run_rest(reached, device, line, bytes, frame, store, text, out);
             return;
         }
-        reached = take_chunk(reached, &chunk[..n], line, bytes, frame, store, text);
+        reached = take_chunk(
+            reached,
+            device,
+            &chunk[..n],
+            line,
+            bytes,
+            frame,
+            store,
+            text,
+            out,
+        );
         turns -= 1;
     }
 }
 
-// Runs the last line, where it lacks its newline.
+// Runs the last line, where it lacks its newline, and writes its answer.
 fn run_rest(
     reached: Reached,
+    device: &mut [u64; 933],
     line: &[u8],
     bytes: &mut [u8],
     frame: &mut [u8],
     store: &mut [u8],
     text: &mut [u8],
+    out: &mut [u8],
 ) {
     let count = reached.count;
     if count > 0 {
-        run_line(reached.state, line, count, bytes, frame, store, text);
+        let run = Run {
+            kept: reached.kept,
+            gathered: 0,
+        };
+        let last = run_line(run, device, line, count, bytes, frame, store, text, out);
+        flush(out, last.gathered);
     }
 }
 

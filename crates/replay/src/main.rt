@@ -1,8 +1,8 @@
 // Runs a script of commands from standard input, and writes one line for each to standard output.
 //
-// `input` reads the script and parts it into lines, `run` runs one of them, `output` writes its answer.
+// `input` reads the script and parts it into lines, `run` runs one of them, `output` writes the answers.
 // What a line asks is in the crate `request`, and what a call is answered in `report`. Nothing grows
-// with the script: the store and every buffer stand in `main` and are lent from there.
+// with the script: the device, the store and every buffer stand in `main` and are lent from there.
 ghost use mathlib.Core.Path.{_≡_};
 ghost use lib.ListN.{length};
 
@@ -25,21 +25,25 @@ fn new_text() -> [u8; 2097184]
     [0; 2097184]
 }
 
-// Lends the store and the buffers. `bytes` holds what the hex of a line stands for, less than half of
-// the line.
+// Lends the device's words, the store and the buffers. `bytes` holds what the hex of a line stands for,
+// less than half of the line; `out` gathers answers.
 fn main() {
+    let mut device = [0u64; 933];
     let mut chunk = io::large_buffer();
     let mut line = io::large_buffer();
     let mut bytes = [0u8; 32768];
     let mut frame = io::large_buffer();
     let mut store = new_store();
     let mut text = new_text();
+    let mut out = io::large_buffer();
     input::run_script(
+        &mut device,
         &mut chunk,
         &mut line,
         &mut bytes,
         &mut frame,
         &mut store,
         &mut text,
+        &mut out,
     );
 }

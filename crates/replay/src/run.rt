@@ -1,48 +1,60 @@
-// One line of the script: it is run, and its answer is written.
+// One line of the script: it is run, and its answer is gathered.
 use super::output::print;
 use super::output::print_answer;
 use command::answer::bad;
 use command::args::room;
+use device::opening::open;
 use report::tell;
 use request::Asked;
 use request::ask;
-use rnic::Rnic;
+use rnic_c::rnic_c_call;
 ghost use mathlib.Core.Path.{_≡_};
-ghost use Prim.Native.Nat.{min};
+ghost use Prim.Native.Nat.{min, _≤_};
 ghost use mathlib.Core.List.{_++_};
 ghost use lib.ListN.{length, take, drop};
 ghost use Rattle.calls.specs.Call.{called, calledStore};
-ghost use Rattle.replay.specs.Run.{firstState, lineRequest, stateAfter, storeThen};
+ghost use Rattle.block.specs.Device.{rnicAt};
+ghost use Rattle.replay.specs.Run.{firstState, lineRequest, stateAt, stateAfter, storeThen};
 
-// What a run holds besides the store: the device, and the LENGTH of the last `open`, which is how many
-// of the store's bytes a line lends that does not say.
-pub struct State {
+// What a line hands on besides the device and the store: the LENGTH of the last `open`, which is how
+// many of the store's bytes a line lends that does not say, and how many bytes of answers are gathered.
+pub struct Run {
     pub kept: u64,
-    pub rnic: Rnic,
+    pub gathered: usize,
 }
 
-// What a run starts with: the device that a refused opening leaves, and no byte lent.
-pub fn first_state() -> State
-    ensures { λ r. ⌜ r ≡ firstState ⌝ }
+// What a run starts with: puts the device that a refused opening leaves into the words, and answers how
+// many bytes are lent, none.
+pub fn first_state(device: &mut [u64; 933]) -> u64
+    ensures { λ r. ⌜ stateAt r (now (device .exit)) ≡ firstState ⌝ }
 {
-    let done = rnic::open(0, 0, 0, 0, 0, 0, 0, 0, 0);
-    let rnic = done.rnic;
-    State { kept: 0, rnic }
+    open(device, 0, 0, 0, 0, 0, 0, 0, 0, 0);
+    0
 }
 
 // Makes a call on the first bytes of the store with the first bytes of the buffer, as many as are asked
-// for and there, and writes its answer.
-fn make_call(rnic: Rnic, asked: Asked, bytes: &[u8], store: &mut [u8], text: &mut [u8]) -> Rnic
-    ensures device { λ r. ⌜ r ≡ called rnic (min (asked .lent) (length (now (store .entry)))) (asked .number) (asked .numbers) (take (min (asked .size) (length (now (bytes .entry)))) (now (bytes .entry))) .rnic ⌝ }
-    ensures rest { λ r. ⌜ now (store .exit) ≡ calledStore rnic (asked .number) (asked .numbers) (take (min (asked .size) (length (now (bytes .entry)))) (now (bytes .entry))) (take (min (asked .lent) (length (now (store .entry)))) (now (store .entry))) ++ drop (min (asked .lent) (length (now (store .entry)))) (now (store .entry)) ⌝ }
+// for and there, and gathers its answer.
+fn make_call(
+    asked: Asked,
+    device: &mut [u64; 933],
+    bytes: &[u8],
+    store: &mut [u8],
+    text: &mut [u8],
+    out: &mut [u8],
+    gathered: usize,
+) -> usize
+    requires { ⌜ gathered ≤ length (now out) ⌝ }
+    ensures within { λ r. ⌜ r ≤ length (now (out .entry)) ⌝ }
+    ensures rnic { λ r. ⌜ rnicAt (now (device .exit)) ≡ called (rnicAt (now (device .entry))) (min (asked .lent) (length (now (store .entry)))) (asked .number) (asked .numbers) (take (min (asked .size) (length (now (bytes .entry)))) (now (bytes .entry))) .rnic ⌝ }
+    ensures rest { λ r. ⌜ now (store .exit) ≡ calledStore (rnicAt (now (device .entry))) (asked .number) (asked .numbers) (take (min (asked .size) (length (now (bytes .entry)))) (now (bytes .entry))) (take (min (asked .lent) (length (now (store .entry)))) (now (store .entry))) ++ drop (min (asked .lent) (length (now (store .entry)))) (now (store .entry)) ⌝ }
 {
     let lent = room(asked.lent, store.len());
     let size = room(asked.size as u64, bytes.len());
     let numbers = asked.numbers;
     let number = asked.number;
     let mut answer = [0u64; 8];
-    let next = calls::call(
-        rnic,
+    rnic_c_call(
+        device,
         &mut store[..lent],
         number,
         &numbers,
@@ -50,36 +62,45 @@ fn make_call(rnic: Rnic, asked: Asked, bytes: &[u8], store: &mut [u8], text: &mu
         &mut answer,
     );
     let n = tell(number, answer, text);
-    print(text, n);
-    next
+    print(text, n, out, gathered)
 }
 
 // Runs a line of `count` bytes, which the buffer `line` starts with unless the line is too long.
 pub fn run_line(
-    state: State,
+    run: Run,
+    device: &mut [u64; 933],
     line: &[u8],
     count: usize,
     bytes: &mut [u8],
     frame: &mut [u8],
     store: &mut [u8],
     text: &mut [u8],
-) -> State
-    ensures state { λ r. ⌜ r ≡ stateAfter state (lineRequest (state .kept) (length (now (bytes .entry))) (length (now (store .entry))) (now (line .entry)) count) (now (store .entry)) ⌝ }
-    ensures rest { λ r. ⌜ now (store .exit) ≡ storeThen state (lineRequest (state .kept) (length (now (bytes .entry))) (length (now (store .entry))) (now (line .entry)) count) (now (store .entry)) ⌝ }
+    out: &mut [u8],
+) -> Run
+    requires { ⌜ run .gathered ≤ length (now out) ⌝ }
+    ensures within { λ r. ⌜ r .gathered ≤ length (now (out .entry)) ⌝ }
+    ensures state { λ r. ⌜ stateAt (r .kept) (now (device .exit)) ≡ stateAfter (stateAt (run .kept) (now (device .entry))) (lineRequest (run .kept) (length (now (bytes .entry))) (length (now (store .entry))) (now (line .entry)) count) (now (store .entry)) ⌝ }
+    ensures rest { λ r. ⌜ now (store .exit) ≡ storeThen (stateAt (run .kept) (now (device .entry))) (lineRequest (run .kept) (length (now (bytes .entry))) (length (now (store .entry))) (now (line .entry)) count) (now (store .entry)) ⌝ }
 {
     if line.len() < count {
         let n = bad(text);
-        print(text, n);
-        return state;
-    }
-    let asked = ask(&line[..count], state.kept, bytes, frame, store, text);
-    if asked.call {
-        let rnic = make_call(state.rnic, asked, bytes, store, text);
-        return State {
-            kept: asked.kept,
-            rnic,
+        let gathered = print(text, n, out, run.gathered);
+        return Run {
+            kept: run.kept,
+            gathered,
         };
     }
-    print_answer(text, asked.count);
-    state
+    let asked = ask(&line[..count], run.kept, bytes, frame, store, text);
+    if asked.call {
+        let gathered = make_call(asked, device, bytes, store, text, out, run.gathered);
+        return Run {
+            kept: asked.kept,
+            gathered,
+        };
+    }
+    let gathered = print_answer(text, asked.count, out, run.gathered);
+    Run {
+        kept: run.kept,
+        gathered,
+    }
 }

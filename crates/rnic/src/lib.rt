@@ -95,7 +95,7 @@ fn new_rnic(
 }
 
 // Whether a length is one that a store can have.
-fn length_in_range(len: u64) -> bool
+pub fn length_in_range(len: u64) -> bool
     ensures { λ r. ⌜ r ≡ both (leb 1 len) (leb len 16777216) ⌝ }
 {
     if len == 0 {
@@ -105,7 +105,7 @@ fn length_in_range(len: u64) -> bool
 }
 
 // Whether each part starts at or after the end of the one before, and none ends past the store's end.
-fn in_order(
+pub fn in_order(
     len: u64,
     s0: u64,
     e0: u64,

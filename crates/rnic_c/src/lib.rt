@@ -1,83 +1,100 @@
-// The device for a C program, or one in Rust: it holds a device of its own and a store of any size
-// up to 16 MiB, and calls the device by a call's number with nine numbers, or its receive by
-// itself.
+// The device for a C program, or one in Rust: it holds a device of its own as a block of 933 words and a
+// store of any size up to 16 MiB, and calls the device by a call's number with nine numbers, or its
+// receive by itself. A call reads what it needs of the block and writes back what changed (`device`).
 //
-// Read `rnic_c_call` first, over `call` of the crate `calls`, which has the numbers of the calls
-// and the words of the answers; include/rnic.h has both for C.
+// Read `rnic_c_call` first. The crate `calls` has the numbers of the calls and the words of the answers;
+// include/rnic.h has both for C.
 ghost use mathlib.Core.Path.{_≡_};
 ghost use lib.ListN.{length};
 ghost use Rattle.calls.specs.Call.{called, calledStore, calledReceive};
 ghost use Rattle.rnic.specs.Rnic.{rnicReceivedStore};
+ghost use Rattle.block.specs.Device.{rnicAt};
 ghost use Rattle.crc32c.specs.Crc.{crcOf};
-use crate::entry::judge_write;
-use crate::entry::owner_of;
-use crate::entry::put_write;
-use crate::entry::receive_kept;
-use crate::entry::slot_of;
-use calls::call;
-use domain::write::named_window;
-use rnic::Rnic;
+use calls::words::answer_words;
+use calls::words::close_words;
+use calls::words::count_words;
+use calls::words::outcome_words;
+use calls::words::take_words;
+use calls::words::words;
+use device::opening::open;
+use device::receive::receive;
+use device::stream::close_stream;
+use device::stream::open_stream;
+use device::stream::post;
+use device::stream::take;
+use device::window::drop_window;
+use device::window::live_count;
+use device::window::lowest_free;
+use device::window::register;
 
-mod entry;
-
-// A call by its number on a device that the caller holds: `call` of it, put back in its place.
+// A call by its number on a device that the caller holds, with the call's nine numbers, its bytes and the
+// store; the answer's words.
 #[no_mangle]
 pub extern "C" fn rnic_c_call(
-    device: &mut Rnic,
+    device: &mut [u64; 933],
     store: &mut [u8],
     number: u64,
     a: &[u64; 9],
     bytes: &[u8],
     answer: &mut [u64; 8],
 )
-    ensures { λ _. ⌜ (now (device .exit) ≡ called (now (device .entry)) (length (now (store .entry))) number (now (a .entry)) (now (bytes .entry)) .rnic) × (now (answer .exit) ≡ called (now (device .entry)) (length (now (store .entry))) number (now (a .entry)) (now (bytes .entry)) .words) × (now (store .exit) ≡ calledStore (now (device .entry)) number (now (a .entry)) (now (bytes .entry)) (now (store .entry))) ⌝ }
+    ensures { λ _. ⌜ (rnicAt (now (device .exit)) ≡ called (rnicAt (now (device .entry))) (length (now (store .entry))) number (now (a .entry)) (now (bytes .entry)) .rnic) × (now (answer .exit) ≡ called (rnicAt (now (device .entry))) (length (now (store .entry))) number (now (a .entry)) (now (bytes .entry)) .words) × (now (store .exit) ≡ calledStore (rnicAt (now (device .entry))) number (now (a .entry)) (now (bytes .entry)) (now (store .entry))) ⌝ }
 {
-    let next = call(*device, store, number, a, bytes, answer);
-    *device = next;
+    match number {
+        0 => {
+            let done = open(device, a[0], a[1], a[2], a[3], a[4], a[5], a[6], a[7], a[8]);
+            *answer = outcome_words(done);
+        }
+        1 => {
+            let done = open_stream(device, a[0], a[1] != 0);
+            *answer = outcome_words(done);
+        }
+        2 => {
+            let done = close_stream(device, a[0]);
+            *answer = close_words(done);
+        }
+        3 => {
+            let done = register(device, a[0], a[1], a[2], a[3], a[4], a[5]);
+            *answer = outcome_words(done);
+        }
+        4 => {
+            let done = drop_window(device, a[0]);
+            *answer = outcome_words(done);
+        }
+        5 => {
+            let done = post(device, a[0], a[1], a[2]);
+            *answer = outcome_words(done);
+        }
+        6 => {
+            let done = take(device, a[0]);
+            *answer = take_words(done);
+        }
+        7 => {
+            *answer = count_words(live_count(device, a[0]));
+        }
+        8 => {
+            *answer = count_words(lowest_free(device, a[0]));
+        }
+        9 => rnic_c_receive(device, store, a[0], bytes, answer),
+        _ => {
+            *answer = words(0, 1, 0, 0, 0, 0);
+        }
+    }
 }
 
-// The device's receive by itself: what `rnic_c_call` does with the number 9, but that no more of
-// the device is copied than is needed. A valid Write needs of the owner's entry the part, one
-// window, and the phase and the framing of the one stream, and changes nothing of it. For all else
-// the windows and the stream are copied too, and written back.
+// The device's receive by itself: what `rnic_c_call` does with the number 9.
 #[no_mangle]
 pub extern "C" fn rnic_c_receive(
-    device: &mut Rnic,
+    device: &mut [u64; 933],
     store: &mut [u8],
     stream: u64,
     bytes: &[u8],
     answer: &mut [u64; 8],
 )
-    ensures { λ _. ⌜ (now (device .exit) ≡ calledReceive (now (device .entry)) (length (now (store .entry))) stream (now (bytes .entry)) .rnic) × (now (answer .exit) ≡ calledReceive (now (device .entry)) (length (now (store .entry))) stream (now (bytes .entry)) .words) × (now (store .exit) ≡ rnicReceivedStore (now (device .entry)) stream (now (bytes .entry)) (now (store .entry))) ⌝ }
+    ensures { λ _. ⌜ (rnicAt (now (device .exit)) ≡ calledReceive (rnicAt (now (device .entry))) (length (now (store .entry))) stream (now (bytes .entry)) .rnic) × (now (answer .exit) ≡ calledReceive (rnicAt (now (device .entry))) (length (now (store .entry))) stream (now (bytes .entry)) .words) × (now (store .exit) ≡ rnicReceivedStore (rnicAt (now (device .entry))) stream (now (bytes .entry)) (now (store .entry))) ⌝ }
 {
-    let owner = owner_of(stream);
-    let slot = slot_of(stream);
-    let named = named_window(bytes);
-    let len = device.len;
-    let d = &mut device.domains[owner];
-    let part = d.part;
-    let window = d.windows[named];
-    let s = &mut d.streams[slot];
-    let phase = s.phase;
-    let framing = s.framing;
-    let write = judge_write(
-        part,
-        window,
-        phase,
-        framing,
-        len,
-        store.len(),
-        stream,
-        bytes,
-    );
-    if write.valid {
-        put_write(part, write, store, bytes, answer);
-        return;
-    }
-    let windows = d.windows;
-    let next = receive_kept(part, windows, *s, len, store, stream, bytes, answer);
-    d.windows = next.windows;
-    *s = next.stream;
+    let done = receive(device, store, stream, bytes);
+    *answer = answer_words(done);
 }
 
 // The CRC-32C of bytes, by which a program can write frames of its own.

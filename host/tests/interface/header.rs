@@ -1,14 +1,19 @@
-//! The header and this crate say the same: size, alignment, the calls' numbers and the answers' kinds.
+//! The header and this crate say the same: the words of a device, the calls' numbers and the answers' kinds.
 
 use std::fs;
 use std::path::Path;
 
-use host::raw::{call, kind, Rnic, ALIGN, SIZE};
+use host::raw::{call, kind, Arguments, Rnic, Words, DEVICE_WORDS};
 
 /// Reads the header.
-fn header() -> String {
+pub fn header() -> String {
     let path = Path::new(env!("CARGO_MANIFEST_DIR")).join("../include/rnic.h");
     fs::read_to_string(path).unwrap()
+}
+
+/// Gives the number that the header defines a name as.
+pub fn defined(header: &str, name: &str) -> Option<u64> {
+    number_after(header, &format!("#define {name} "))
 }
 
 /// Gives the number that follows a text of the header, which stands there once.
@@ -24,11 +29,16 @@ fn number_after(header: &str, text: &str) -> Option<u64> {
 #[test]
 fn header_and_crate_agree() {
     let header = header();
-    let defined = |name| number_after(&header, &format!("#define {name} "));
-    assert_eq!(defined("RNIC_C_SIZE"), Some(SIZE as u64));
-    assert_eq!(defined("RNIC_C_ALIGN"), Some(ALIGN as u64));
-    assert_eq!(std::mem::size_of::<Rnic>(), SIZE);
-    assert_eq!(std::mem::align_of::<Rnic>(), ALIGN);
+    for (name, size) in [
+        ("RNIC_C_DEVICE_WORDS", size_of::<Rnic>()),
+        ("RNIC_C_ARGUMENTS", size_of::<Arguments>()),
+        ("RNIC_C_WORDS", size_of::<Words>()),
+    ] {
+        let words = size / size_of::<u64>();
+        assert_eq!(defined(&header, name), Some(words as u64), "{name}");
+    }
+    assert_eq!(size_of::<Rnic>(), size_of::<[u64; DEVICE_WORDS]>());
+    assert_eq!(align_of::<Rnic>(), align_of::<u64>());
     for (name, number) in [
         ("OPEN", call::OPEN),
         ("OPEN_STREAM", call::OPEN_STREAM),

@@ -1,83 +1,50 @@
-//! The size and the alignment that this crate states are those that the library works with.
+//! A device is its words: so many and no more, any that there are, and after an opening those that the calls make.
+//!
+//! Every call here is made through `Numbered`, which watches the words beside the device.
 
-use host::raw::{rnic_c_call, rnic_c_receive, Arguments, Words, ALIGN, SIZE};
+use host::raw::{call, kind, Arguments, Words, DEVICE_WORDS};
+use host::Device;
 use oracle::generate::draft::{frame, Draft, Sink};
+use oracle::generate::prng::Prng;
 
-/// Bytes watched on either side of the state.
-const GUARD: usize = 4096;
-/// What the watched bytes hold.
-const PATTERN: u8 = 0xA5;
+use crate::support::numbered::Numbered;
+use crate::support::{night, Program};
+
 /// The longest store, whose length fills its field further than any other.
 const STORE: usize = 1 << 24;
+/// The store of the nights.
+const SMALL: usize = 4096;
+/// The opening of the nights.
+const OPENING: &[u8] = b"open 4096 0 1024 1024 2048 2048 3072 3072 4096";
 
-/// A state in the middle of watched bytes, as little aligned as is allowed.
-struct Watched {
-    bytes: Vec<u8>,
-    at: usize,
+/// A device whose every field is to be worked, with its store.
+struct Worked {
+    device: Numbered,
     store: Vec<u8>,
 }
 
-impl Watched {
-    /// Starts with a state of all zeros.
-    fn new() -> Self {
-        let mut bytes = vec![PATTERN; 2 * GUARD + SIZE + 2 * ALIGN];
-        let past = (bytes.as_ptr() as usize + GUARD) % (2 * ALIGN);
-        let at = GUARD + (3 * ALIGN - past) % (2 * ALIGN);
-        bytes[at..at + SIZE].fill(0);
-        Watched {
-            bytes,
-            at,
-            store: vec![0; STORE],
-        }
-    }
-
-    /// Gives the state.
-    fn state(&self) -> &[u8] {
-        &self.bytes[self.at..self.at + SIZE]
-    }
-
+impl Worked {
     /// Makes a call, which must not be refused.
     fn call(&mut self, number: u64, given: &[u64]) {
-        let mut arguments: Arguments = [0; 9];
-        arguments[..given.len()].copy_from_slice(given);
-        let mut answer: Words = [0; 8];
-        let device = self.bytes[self.at..].as_mut_ptr().cast();
-        // SAFETY: the state is as large and as aligned as the header asks, and the rest is held for the call.
-        unsafe {
-            let (store, bytes) = ([0u8; 0].as_mut_ptr(), [0u8; 0].as_ptr());
-            rnic_c_call(device, store, 0, number, &arguments, bytes, 0, &mut answer);
-        }
-        assert_eq!(answer[0], 1, "{number} {given:?}");
+        let answer = self.device.words(&mut [], number, &arguments(given), &[]);
+        assert_eq!(answer[0], kind::DONE, "{number} {given:?}");
     }
 
     /// Receives a segment, which must be taken or end the stream.
     fn receive(&mut self, stream: u64, draft: &Draft) {
-        let bytes = frame(&draft.ulpdu(), 0);
-        let mut answer: Words = [0; 8];
-        let device = self.bytes[self.at..].as_mut_ptr().cast();
-        let store = self.store.as_mut_ptr();
-        // SAFETY: as in `call`.
-        unsafe {
-            rnic_c_receive(
-                device,
-                store,
-                STORE,
-                stream,
-                bytes.as_ptr(),
-                bytes.len(),
-                &mut answer,
-            );
-        }
-        assert!(answer[0] >= 6, "{stream}: {answer:?}");
+        let (store, bytes) = (&mut self.store, frame(&draft.ulpdu(), 0));
+        let arguments = arguments(&[stream]);
+        let answer = self.device.words(store, call::RECEIVE, &arguments, &bytes);
+        assert!(answer[0] >= kind::TAKEN, "{stream}: {answer:?}");
     }
 
     /// Fills a stream's queues and starts a Send.
     fn work_stream(&mut self, stream: u64) {
         let quarter = STORE as u64 / 4;
         let end = (stream / 4 + 1) * quarter;
-        self.call(1, &[stream, 1]);
+        self.call(call::OPEN_STREAM, &[stream, 1]);
         for _ in 0..8 {
-            self.call(5, &[stream, end - 257, 257]);
+            self.call(call::POST, &[stream, end - 257, 257]);
         }
         let window = (stream / 4) * 16;
         let mut read = Draft::new(false, 1);
@@ -98,10 +65,11 @@ impl Watched {
         let quarter = STORE as u64 / 4;
         let mut opening = vec![STORE as u64];
         opening.extend((0..4).flat_map(|domain| [domain * quarter, (domain + 1) * quarter]));
-        self.call(0, &opening);
+        self.call(call::OPEN, &opening);
         for window in 0..64 {
             let place = (window / 16 + 1) * quarter - 257;
-            self.call(3, &[window, 255, u64::MAX - 257, 257, place, 3]);
+            let window = [window, 255, u64::MAX - 257, 257, place, 3];
+            self.call(call::REGISTER, &window);
         }
         (0..16).for_each(|stream| self.work_stream(stream));
         let mut unexpected = Draft::new(false, 6);
@@ -110,15 +78,134 @@ impl Watched {
     }
 }
 
-/// No byte beside the state changes, and the state reaches into its last bytes and into its first.
+/// Gives a call's arguments, those left out being 0.
+fn arguments(given: &[u64]) -> Arguments {
+    let mut arguments = [0; 9];
+    arguments[..given.len()].copy_from_slice(given);
+    arguments
+}
+
+/// Gives words that no call made.
+fn garbage(prng: &mut Prng) -> [u64; DEVICE_WORDS] {
+    std::array::from_fn(|_| prng.draw())
+}
+
+/// A device that is worked in every field uses every word, by either entry of receive.
 #[test]
-fn the_state_has_this_size() {
-    let mut watched = Watched::new();
-    assert_eq!(watched.state().as_ptr() as usize % (2 * ALIGN), ALIGN);
-    watched.work();
-    let (front, rest) = watched.bytes.split_at(watched.at);
-    let (state, back) = rest.split_at(SIZE);
-    assert!(front.iter().chain(back).all(|&byte| byte == PATTERN));
-    assert!(state[..ALIGN].iter().any(|&byte| byte != 0));
-    assert!(state[SIZE - ALIGN..].iter().any(|&byte| byte != 0));
+fn every_word_is_used() {
+    for device in [Numbered::new(), Numbered::new().alone()] {
+        let store = vec![0; STORE];
+        let mut worked = Worked { device, store };
+        worked.work();
+        let unused = worked.device.device().iter().position(|&word| word == 0);
+        assert_eq!(unused, None);
+    }
+}
+
+/// A refused opening leaves zeros, whatever the device held.
+#[test]
+fn a_refused_opening_leaves_zeros() {
+    let mut prng = Prng::new(1);
+    for given in [&[0][..], &[u64::MAX], &[100, 0, 101]] {
+        let mut device = Numbered::holding(&garbage(&mut prng));
+        let answer = device.words(&mut [], call::OPEN, &arguments(given), &[]);
+        assert_eq!(answer[0], kind::REFUSED, "{given:?}");
+        let left = device.device().iter().position(|&word| word != 0);
+        assert_eq!(left, None, "{given:?}");
+    }
+}
+
+/// From an opening on, the words turn on the calls alone: devices that held other words have the same after each call.
+#[test]
+fn the_calls_determine_every_word() {
+    let mut prng = Prng::new(2);
+    for seed in 1..11 {
+        let mut programs = [(); 2].map(|()| {
+            let device = Numbered::holding(&garbage(&mut prng));
+            Program::new(device, SMALL)
+        });
+        let lines = night(SMALL, seed, 1000);
+        for line in std::iter::once(OPENING.to_vec()).chain(lines) {
+            let [answer, other] = programs.each_mut().map(|program| program.run_line(&line));
+            let [device, second] = programs.each_ref().map(|program| program.device.device());
+            let line = String::from_utf8_lossy(&line);
+            assert!(
+                answer == other && device == second,
+                "seed {seed}: {line:.300}"
+            );
+        }
+    }
+}
+
+/// A device goes on from its words as it would have: saved in the middle of a night and read back into another place.
+#[test]
+fn a_device_is_moved_as_words() {
+    let lines = night(SMALL, 11, 2000);
+    let (mut stays, mut moves) = (
+        Program::new(Numbered::new(), SMALL),
+        Program::new(Numbered::new().alone(), SMALL),
+    );
+    for line in lines {
+        let saved = moves
+            .device
+            .device()
+            .try_into()
+            .expect("the device's words");
+        moves.device = Numbered::holding(&saved).alone();
+        assert_eq!(stays.run_line(&line), moves.run_line(&line));
+        assert!(stays.device.device() == moves.device.device());
+    }
+}
+
+/// Devices of the crate are equal where they had the same calls, and others are not.
+#[test]
+fn equal_devices() {
+    let run = |lines: &[Vec<u8>]| {
+        let mut program = Program::new(Device::new(), SMALL);
+        for line in lines {
+            program.run_line(line);
+        }
+        program.device
+    };
+    let mut lines = vec![OPENING.to_vec()];
+    lines.extend(night(SMALL, 12, 500));
+    let mut device = run(&lines);
+    assert!(device == run(&lines) && device == device.clone());
+    assert!(device != Device::new());
+    assert!(device.open(0, [0..0, 0..0, 0..0, 0..0]).is_err());
+    assert!(device == Device::new());
+}
+
+/// Says whether words are an answer: a kind that there is, and a local refusal's number where it is one.
+fn is_answer(words: &Words) -> bool {
+    match words[0] {
+        kind::REFUSED => (1..=11).contains(&words[1]),
+        other => other <= kind::ENDED,
+    }
+}
+
+/// Every call answers whatever words the device holds.
+#[test]
+fn any_words_are_a_device() {
+    let mut prng = Prng::new(3);
+    let mut store = vec![0; SMALL];
+    let mut write = Draft::new(true, 0);
+    write.payload = vec![1; 16];
+    for _ in 0..2000 {
+        let mut words = garbage(&mut prng);
+        // Half of them have the store's length, so that receive is not refused for that alone.
+        if prng.percent(50) {
+            words[0] = SMALL as u64;
+        }
+        for mut device in [Numbered::holding(&words), Numbered::holding(&words).alone()] {
+            for number in [1, 2, 3, 4, 5, 6, 7, 8, 9, 9, 10] {
+                let given = std::array::from_fn(|_| prng.below(70));
+                (write.tagged, write.opcode) = (prng.percent(50), prng.below(8) as u8);
+                (write.stag, write.to) = (prng.below(1 << 14) as u32, prng.draw());
+                let bytes = frame(&write.ulpdu(), 0);
+                let answer = device.words(&mut store, number, &given, &bytes);
+                assert!(is_answer(&answer), "{number}: {answer:?}");
+            }
+        }
+    }
 }

@@ -6,5 +6,6 @@ mod header;
 mod inputs;
 mod layout;
 mod nights;
+mod stack;
 mod stored;
 mod support;

@@ -9,6 +9,9 @@ use crate::script::Interpreter;
 use crate::state::{stream_domain, Condition};
 use crate::state::{DOMAINS, STREAMS, STREAMS_PER_DOMAIN};
 
+/// How many FPDUs in a hundred a night spoils where nothing else is asked for.
+pub const FAULTY: u64 = 16;
+
 /// Every domain.
 const EVERY: [usize; DOMAINS] = [0, 1, 2, 3];
 
@@ -19,9 +22,21 @@ pub fn write_script(seed: u64, count: u64, out: impl Write) -> io::Result<()> {
 
 /// Writes a script for a store of another size, most of whose openings are over all of it.
 pub fn write_script_over(store: usize, seed: u64, count: u64, out: impl Write) -> io::Result<()> {
+    write_spoilt_script(store, FAULTY, seed, count, out)
+}
+
+/// Writes such a script in which so many in a hundred of the FPDUs that come alone have a fault.
+pub fn write_spoilt_script(
+    store: usize,
+    faulty: u64,
+    seed: u64,
+    count: u64,
+    out: impl Write,
+) -> io::Result<()> {
     let mut night = Night::new(seed, EVERY.to_vec(), count);
     night.interpreter = Interpreter::with_store(store);
     night.usual = Some(store as u64);
+    night.faulty = faulty;
     write_night(night, out)
 }
 
@@ -42,13 +57,14 @@ fn write_night(mut night: Night, mut out: impl Write) -> io::Result<()> {
     out.flush()
 }
 
-/// A night under way: the domains whose calls it makes, the length that most openings have where there is one, its lines
-/// so far and the number still to come.
+/// A night under way: the domains whose calls it makes, the length that most openings have where there is one, how many
+/// FPDUs in a hundred it spoils, its lines so far and the number still to come.
 pub(super) struct Night {
     pub(super) prng: Prng,
     pub(super) interpreter: Interpreter,
     pub(super) domains: Vec<usize>,
     usual: Option<u64>,
+    pub(super) faulty: u64,
     pub(super) lines: Vec<Vec<u8>>,
     pub(super) left: u64,
 }
@@ -61,6 +77,7 @@ impl Night {
             interpreter: Interpreter::default(),
             domains,
             usual: None,
+            faulty: FAULTY,
             lines: Vec::new(),
             left,
         }

@@ -13,7 +13,8 @@ impl Night {
     pub(super) fn receive(&mut self, stream: usize) {
         let kind = kind(&mut self.prng);
         self.prepare(stream, kind);
-        let bytes = fpdu(&mut self.prng, &self.interpreter.device, stream, kind, 16);
+        let (device, faulty) = (&self.interpreter.device, self.faulty);
+        let bytes = fpdu(&mut self.prng, device, stream, kind, faulty);
         if self.prng.percent(4) {
             let cut = &bytes[..self.prng.index(bytes.len().max(1))];
             let cut = hex::encode(cut);

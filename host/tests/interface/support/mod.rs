@@ -2,6 +2,7 @@
 
 pub mod device;
 pub mod numbered;
+pub mod painted;
 
 use oracle::command::{parse, Command, Line};
 use oracle::generate::nights;
@@ -20,7 +21,7 @@ pub trait Calls {
 
 /// A device with its store and the count of bytes that it is lent.
 pub struct Program<D> {
-    device: D,
+    pub device: D,
     store: Vec<u8>,
     lent: usize,
 }
@@ -81,14 +82,19 @@ impl<D: Calls> Program<D> {
     }
 }
 
-/// Runs a random night over a store of this size on both programs, comparing each line and the store, and counts.
-pub fn compare(device: impl Calls, size: usize, seed: u64, count: u64, tally: &mut Tally) {
+/// Gives the lines of a random night over a store of this size.
+pub fn night(size: usize, seed: u64, count: u64) -> Vec<Vec<u8>> {
     let mut script = Vec::new();
     nights::write_script_over(size, seed, count, &mut script).unwrap();
+    let lines = script.strip_suffix(b"\n").unwrap().split(|&b| b == b'\n');
+    lines.map(<[u8]>::to_vec).collect()
+}
+
+/// Runs a random night over a store of this size on both programs, comparing each line and the store, and counts.
+pub fn compare(device: impl Calls, size: usize, seed: u64, count: u64, tally: &mut Tally) {
     let mut second = Interpreter::with_store(size);
     let mut ours = Program::new(device, size);
-    let lines = script.strip_suffix(b"\n").unwrap().split(|&b| b == b'\n');
-    for (at, line) in lines.enumerate() {
+    for (at, line) in night(size, seed, count).iter().enumerate() {
         let (answer, expected) = (ours.run_line(line), second.run_line(line));
         let same_store = size > SMALL || ours.store == second.store;
         assert!(

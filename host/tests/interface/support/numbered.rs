@@ -1,24 +1,53 @@
 //! The one entry that takes a call's number, as a device for scripts: numbers in, words out.
 
-use host::raw::{rnic_c_call, Arguments, Rnic, Words};
+use host::raw::{call, rnic_c_call, rnic_c_receive, Arguments, Words, DEVICE_WORDS};
 use oracle::command::Command;
 
 use super::Calls;
 
-/// A device of which nothing but the numbered entry is used.
+/// Words that are watched on either side of the device.
+const GUARD: usize = 64;
+/// What the watched words hold.
+const PATTERN: u64 = 0xA5A5_5A5A_C3C3_3C3C;
+
+/// A device of which nothing but the entries is used, as little aligned as is allowed, between words that no call changes.
 pub struct Numbered {
-    state: Box<Rnic>,
+    words: Vec<u64>,
+    at: usize,
+    alone: bool,
 }
 
 impl Numbered {
-    /// Starts with the state of all zeros.
+    /// Starts with the device of all zeros, of which every call is made by its number.
     pub fn new() -> Self {
+        Numbered::holding(&[0; DEVICE_WORDS])
+    }
+
+    /// Starts with a device of these words.
+    pub fn holding(device: &[u64; DEVICE_WORDS]) -> Self {
+        let mut words = vec![PATTERN; 2 * GUARD + DEVICE_WORDS + 1];
+        let odd = (words.as_ptr() as usize / size_of::<u64>() + GUARD) % 2;
+        let at = GUARD + 1 - odd;
+        words[at..at + DEVICE_WORDS].copy_from_slice(device);
         Numbered {
-            state: Box::new(Rnic::ZERO),
+            words,
+            at,
+            alone: false,
         }
     }
 
-    /// Makes a call by its number.
+    /// Gives the same device with receive called by its own entry.
+    pub fn alone(self) -> Self {
+        let alone = true;
+        Numbered { alone, ..self }
+    }
+
+    /// Gives the device's words.
+    pub fn device(&self) -> &[u64] {
+        &self.words[self.at..self.at + DEVICE_WORDS]
+    }
+
+    /// Makes a call by its number, or receive by itself; no word beside the device may change.
     pub fn words(
         &mut self,
         store: &mut [u8],
@@ -28,37 +57,57 @@ impl Numbered {
     ) -> Words {
         // Each word is to be written, so none starts as 0.
         let mut answer = [0xA5A5; 8];
+        let device = self.words[self.at..].as_mut_ptr().cast();
+        let (lent, lent_length) = (store.as_mut_ptr(), store.len());
+        let (read, read_length) = (bytes.as_ptr(), bytes.len());
         // SAFETY: pointers and lengths of slices and references that are held for the call.
         unsafe {
-            rnic_c_call(
-                &mut *self.state,
-                store.as_mut_ptr(),
-                store.len(),
-                number,
-                arguments,
-                bytes.as_ptr(),
-                bytes.len(),
-                &mut answer,
-            );
+            if self.alone && number == call::RECEIVE {
+                let stream = arguments[0];
+                rnic_c_receive(
+                    device,
+                    lent,
+                    lent_length,
+                    stream,
+                    read,
+                    read_length,
+                    &mut answer,
+                );
+            } else {
+                rnic_c_call(
+                    device,
+                    lent,
+                    lent_length,
+                    number,
+                    arguments,
+                    read,
+                    read_length,
+                    &mut answer,
+                );
+            }
         }
+        let (front, rest) = self.words.split_at(self.at);
+        let beside = front.iter().chain(&rest[DEVICE_WORDS..]);
+        assert!(
+            beside.copied().all(|word| word == PATTERN),
+            "{number} {arguments:?}"
+        );
         answer
     }
 }
 
 impl Calls for Numbered {
     fn call(&mut self, command: &Command, store: &mut [u8]) -> String {
-        let Some((number, given, bytes)) = encode(command) else {
+        let Some((number, arguments, bytes)) = encode(command) else {
             return String::from("no call of the device");
         };
-        let mut arguments = [0; 9];
-        arguments[..given.len()].copy_from_slice(&given);
         text(command, self.words(store, number, &arguments, bytes))
     }
 }
 
 /// Gives a call's number, arguments and bytes.
-fn encode(command: &Command) -> Option<(u64, Vec<u64>, &[u8])> {
-    let (number, arguments) = match command {
+pub fn encode(command: &Command) -> Option<(u64, Arguments, &[u8])> {
+    let (number, given) = match command {
         Command::Open { length, parts } => {
             let ends = parts.iter().flat_map(|part| [part.start, part.end]);
             (0, std::iter::once(*length).chain(ends).collect())
@@ -82,14 +131,20 @@ fn encode(command: &Command) -> Option<(u64, Vec<u64>, &[u8])> {
         Command::Take(stream) => (6, vec![*stream]),
         Command::Live(domain) => (7, vec![*domain]),
         Command::Free(domain) => (8, vec![*domain]),
-        Command::Receive { stream, bytes, .. } => return Some((9, vec![*stream], bytes)),
+        Command::Receive { stream, .. } => (9, vec![*stream]),
         _ => return None,
     };
-    Some((number, arguments, &[]))
+    let mut arguments = [0; 9];
+    arguments[..given.len()].copy_from_slice(&given);
+    let bytes: &[u8] = match command {
+        Command::Receive { bytes, .. } => bytes,
+        _ => &[],
+    };
+    Some((number, arguments, bytes))
 }
 
 /// Writes an answer's words as the script's line.
-fn text(command: &Command, words: Words) -> String {
+pub fn text(command: &Command, words: Words) -> String {
     match (words, command) {
         ([0, n, 0, 0, 0, 0, 0, 0], _) => format!("refused {n}"),
         ([1, 0, 0, 0, 0, 0, 0, 0], Command::Open { .. }) => String::from("opened"),

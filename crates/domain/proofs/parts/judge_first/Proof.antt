@@ -6,14 +6,15 @@ use mathlib.Core.List.{List}
 use native.Mathlib.Omega.{arith}
 use lib.ListN.{length, take, drop}
 use Rattle.wire.specs.Wire.{part}
-use Rattle.memory.specs.Window.{windowAt}
+use Rattle.memory.specs.Window.{windowAt, slotNamed}
 use Rattle.ddp.specs.Untagged.{untaggedOf}
 use Rattle.memory.specs.declared.part.Part.{Part}
 use Rattle.ddp.specs.declared.header.UntaggedHeader.{UntaggedHeader}
 use Rattle.memory.specs.declared.window.Window.{Window}
 use Rattle.ddp.specs.declared.segment.SegmentRead.{SegmentRead}
 use Rattle.rdmap.specs.declared.stream.Stream.{Stream}
-use Rattle.rdmap.specs.Message.{queuesOf, untaggedVerdict}
+use Rattle.rdmap.specs.Message.{stagNamed, queueOf, untaggedVerdict}
+use Rattle.rdmap.specs.Sends.{currentBuffer}
 use Rattle.rdmap.specs.declared.message.Verdict.{Verdict}
 use Rattle.domain.specs.Parts.{appliedBytes, taggedVerdict, partsJudged, partsPlaced}
 use Rattle.domain.specs.declared.parts.Judged.{Judged}
@@ -33,7 +34,8 @@ untagged-ends t = inside _ _ _ (sym (t .total2 .given .1) ∙ t .before .before 
 -- what an untagged segment of this payload is judged to be
 abbrev untagged : List Window → ℕ → Stream → UntaggedHeader → List ℕ → Verdict
 untagged windows number s h payload =
-    untaggedVerdict windows number (s .sends) h payload (untaggedOf (queuesOf s) (h .qn) (h .msn) (h .mo) (length payload))
+    untaggedVerdict (windowAt windows (slotNamed (stagNamed h payload))) number (s .sends .opcode) (currentBuffer (s .sends)) h payload
+    (untaggedOf (queueOf s (h .qn)) (h .qn) (h .msn) (h .mo) (length payload))
 
 module _ (p : Part) (windows : List Window) (number : ℕ) (s : Stream) (bytes store : List ℕ) where
   -- the contract, of what was read
@@ -99,17 +101,17 @@ enum-known-total-2 c = search needs
 add-end-2 : tie.Need-add-end-2
 add-end-2 c = omega (arith, untagged-ends (c .before))
 
-sub-judge-untagged-segment : tie.Need-sub-judge-untagged-segment
-sub-judge-untagged-segment c = search needs
+sub-judge-untagged : tie.Need-sub-judge-untagged
+sub-judge-untagged c = search needs
 
-part-judge-untagged-segment-start : tie.Need-part-judge-untagged-segment-start
-part-judge-untagged-segment-start c = search needs
+part-judge-untagged-start : tie.Need-part-judge-untagged-start
+part-judge-untagged-start c = search needs
 
-part-judge-untagged-segment-end : tie.Need-part-judge-untagged-segment-end
-part-judge-untagged-segment-end c = omega (arith, untagged-ends (c .before))
+part-judge-untagged-end : tie.Need-part-judge-untagged-end
+part-judge-untagged-end c = omega (arith, untagged-ends (c .before))
 
-judge-untagged-segment-requires : tie.Need-judge-untagged-segment-requires
-judge-untagged-segment-requires c κs = search needs
+judge-untagged-requires : tie.Need-judge-untagged-requires
+judge-untagged-requires c κs = search needs
 
 sub-place-by-2 : tie.Need-sub-place-by-2
 sub-place-by-2 c = search needs
@@ -163,7 +165,7 @@ returns-4 c =
     answers (a .part) (a .t2) (a .number) (a .s) (a .bytes .now) (a .store .now)
     (sym (g .1) ∙ t .before .before .read-segment .ensures)
     (judged (a .part) (a .t2) (a .number) (a .s) (a .bytes .now) (a .store .now) (g .0 .0) (g .0 .1 .1 .0) (g .0 .1 .1 .1 .0)
-    (c .before .before .before .before .before .judge-untagged-segment .ensures
+    (c .before .before .before .before .before .judge-untagged .ensures
     ∙ ap (untagged (a .t2) (a .number) (a .s) (g .0 .1 .0)) (lent (a .bytes .now) (g .0 .1 .1 .0) (g .0 .1 .1 .1 .0)))
     (c .before .before .place-by2 .ensures))
 
@@ -186,10 +188,10 @@ judge-first-spec =
     place-by-requires
     enum-known-total-2
     add-end-2
-    sub-judge-untagged-segment
-    part-judge-untagged-segment-start
-    part-judge-untagged-segment-end
-    judge-untagged-segment-requires
+    sub-judge-untagged
+    part-judge-untagged-start
+    part-judge-untagged-end
+    judge-untagged-requires
     sub-place-by-2
     part-place-by-start-2
     part-place-by-end-2

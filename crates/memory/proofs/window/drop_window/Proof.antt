@@ -1,5 +1,7 @@
--- `drop_window` meets its contract: at each return the tests that led there pick the case of `dropped`.
-use Rattle.memory.specs.Window.{dropped}
+-- `drop_window` meets its contract: the test on the slot picks the case of `dropped`, and the window of the slot is what
+-- `drop_in` gives.
+use mathlib.Core.Path.{ap, _∙_}
+use Rattle.memory.specs.Window.{entering, dropped}
 use borrow.Author.Needs.{needs}
 use borrow.Author.Tests.{le-leb, lt-leb}
 use Rattle.memory.proofs.window.drop_window.Statement.{statement}
@@ -12,25 +14,24 @@ returns : tie.Need-returns
 unfolding dropped
 returns c = simp (lt-leb _ _ (c .before .if1 .taken)) (c .refused .ensures)
 
-mul-old : tie.Need-mul-old
-mul-old c = search needs
+mul-drop-in : tie.Need-mul-drop-in
+mul-drop-in c = search needs
 
-array-copy-out-old : tie.Need-array-copy-out-old
-array-copy-out-old c = search needs
+array-copy-out-drop-in : tie.Need-array-copy-out-drop-in
+array-copy-out-drop-in c = search needs
+
+drop-in-requires : tie.Need-drop-in-requires
+drop-in-requires c κs = search needs
 
 entered-requires : tie.Need-entered-requires
 entered-requires c κs = search needs
 
 returns-2 : tie.Need-returns-2
 unfolding dropped
-returns-2 c = simp (le-leb _ _ (c .before .before .before .if1 .left), c .before .if2 .taken) (c .entered .ensures)
-
-refused-requires-2 : tie.Need-refused-requires-2
-refused-requires-2 c κs = search needs
-
-returns-3 : tie.Need-returns-3
-unfolding dropped
-returns-3 c = simp (le-leb _ _ (c .before .before .before .if1 .left), c .before .if2 .left) (c .refused2 .ensures)
+returns-2 c =
+    let a = c .before .before .before .before .args in
+    simp (le-leb _ _ (c .before .before .before .if1 .left))
+    (c .entered .ensures ∙ ap (entering (a .t1) (a .slot)) (c .before .drop-in .ensures))
 
 pub drop-window-spec : {M : Type 1} → statement M
 drop-window-spec =
@@ -38,9 +39,8 @@ drop-window-spec =
     (tie.spec
     refused-requires
     returns
-    mul-old
-    array-copy-out-old
+    mul-drop-in
+    array-copy-out-drop-in
+    drop-in-requires
     entered-requires
-    returns-2
-    refused-requires-2
-    returns-3)
+    returns-2)

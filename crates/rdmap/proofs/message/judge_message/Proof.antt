@@ -1,53 +1,35 @@
 -- `judge_message` meets its contract: the queue picks the case of `messageVerdict`.
-use mathlib.Core.Path.{ap, _∙_}
 use borrow.Author.Tests.{eq-eqb, ne-eqb}
-use Rattle.memory.specs.declared.buffer.Buffer.{Buffer}
-use Rattle.rdmap.specs.Message.{messageVerdict, sendVerdict}
+use Rattle.rdmap.specs.Message.{messageVerdict}
 use borrow.Author.Needs.{needs}
 use Rattle.rdmap.proofs.message.judge_message.Statement.{statement}
 use Rattle.rdmap.proofs.message.judge_message.Tie as tie
-use Rattle.rdmap.proofs.message.judge_read.Reads as judge-read-reads
-use Rattle.rdmap.proofs.message.judge_send.Reads as judge-send-reads
-use Rattle.rdmap.proofs.message.judge_terminate.Reads as judge-terminate-reads
-use Rattle.rdmap.proofs.sends.Sends.current.Reads as current-reads
-
-current-requires : tie.Need-current-requires
-current-requires c κs = search needs
 
 judge-send-requires : tie.Need-judge-send-requires
 judge-send-requires c κs = search needs
 
 returns : tie.Need-returns
 unfolding messageVerdict
-returns c =
-    let a = c .before .before .before .before .before .args in
-    simp (eq-eqb _ _ (c .before .before .if1 .taken))
-    (c .judge-send .ensures
-    ∙ ap (λ (b : Buffer). sendVerdict (a .windows) (a .domain) b (a .h) (a .start) (a .end)) (c .before .current .ensures))
+returns c = simp (eq-eqb _ _ (c .before .if1 .taken)) (c .judge-send .ensures)
 
 judge-read-requires : tie.Need-judge-read-requires
 judge-read-requires c κs = search needs
 
 returns-2 : tie.Need-returns-2
 unfolding messageVerdict
-returns-2 c =
-    simp (ne-eqb _ _ (c .before .before .before .if1 .left), eq-eqb _ _ (c .before .if2 .taken))
-    (c .judge-read .ensures)
+returns-2 c = simp (ne-eqb _ _ (c .before .before .before .if1 .left), eq-eqb _ _ (c .before .if2 .taken)) (c .judge-read .ensures)
 
 judge-terminate-requires : tie.Need-judge-terminate-requires
 judge-terminate-requires c κs = search needs
 
 returns-3 : tie.Need-returns-3
 unfolding messageVerdict
-returns-3 c =
-    simp (ne-eqb _ _ (c .before .before .before .if1 .left), ne-eqb _ _ (c .before .if2 .left))
-    (c .judge-terminate .ensures)
+returns-3 c = simp (ne-eqb _ _ (c .before .before .before .if1 .left), ne-eqb _ _ (c .before .if2 .left)) (c .judge-terminate .ensures)
 
 pub judge-message-spec : {M : Type 1} → statement M
 judge-message-spec =
     tie.close
     (tie.spec
-    current-requires
     judge-send-requires
     returns
     judge-read-requires

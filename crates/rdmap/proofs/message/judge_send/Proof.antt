@@ -15,8 +15,8 @@ add-at c = search needs
 takes-stag-requires : tie.Need-takes-stag-requires
 takes-stag-requires c κs = search needs
 
-find-requires : tie.Need-find-requires
-find-requires c κs = search needs
+find-in-requires : tie.Need-find-in-requires
+find-in-requires c κs = search needs
 
 judge-invalidate-requires : tie.Need-judge-invalidate-requires
 judge-invalidate-requires c κs = search needs
@@ -28,7 +28,7 @@ returns c =
     let takes = sym (c .before .before .before .takes-stag .ensures) ∙ c .before .before .if2 .taken in
     simp (c .before .before .before .before .if1 .taken, takes)
     (c .judge-invalidate .ensures
-    ∙ ap (invalidated (a .b) (opcodeOf (a .h .control)) (a .start) (a .end) (a .h .stag)) (c .before .find .ensures))
+    ∙ ap (invalidated (a .b) (opcodeOf (a .h .control)) (a .start) (a .end) (a .h .stag)) (c .before .find-in .ensures))
 
 returns-2 : tie.Need-returns-2
 unfolding sendVerdict
@@ -45,7 +45,7 @@ judge-send-spec =
     cast-at
     add-at
     takes-stag-requires
-    find-requires
+    find-in-requires
     judge-invalidate-requires
     returns
     returns-2

@@ -6,16 +6,17 @@ use Rattle.replay.proofs.input.run_script.Statement.{statement}
 use Rattle.replay.proofs.input.run_script.Tie as tie
 
 abbrev Inv-loop : tie.InvT-loop
-Inv-loop chunk₀ line₀ bytes₀ frame₀ store₀ text₀ turns₀ reached₀ chunk line bytes frame store text turns reached =
+Inv-loop device₀ chunk₀ line₀ bytes₀ frame₀ store₀ text₀ out₀ turns₀ reached₀ device chunk line bytes frame store text out turns reached =
     (length chunk ≡ length chunk₀)
     × (length line ≡ length line₀)
     × (length bytes ≡ length bytes₀)
     × (length frame ≡ length frame₀)
     × (length store ≡ length store₀)
     × (length text ≡ length text₀)
+    × (length out ≡ length out₀)
 
 abbrev μ-loop : tie.MeasureT-loop
-μ-loop chunk₀ line₀ bytes₀ frame₀ store₀ text₀ turns₀ reached₀ chunk line bytes frame store text turns reached =
+μ-loop device₀ chunk₀ line₀ bytes₀ frame₀ store₀ text₀ out₀ turns₀ reached₀ device chunk line bytes frame store text out turns reached =
     turns
 
 first-state-requires : tie.Need-first-state-requires Inv-loop μ-loop
@@ -48,14 +49,14 @@ same-length-5 c = search needs
 same-length-6 : tie.Need-same-length-6 Inv-loop μ-loop
 same-length-6 c = search needs
 
+same-length-7 : tie.Need-same-length-7 Inv-loop μ-loop
+same-length-7 c = search needs
+
 returns : tie.Need-returns Inv-loop μ-loop
 returns c = search needs
 
 run-rest-requires : tie.Need-run-rest-requires Inv-loop μ-loop
 run-rest-requires c κs = search needs
-
-same-length-7 : tie.Need-same-length-7 Inv-loop μ-loop
-same-length-7 c = search needs
 
 same-length-8 : tie.Need-same-length-8 Inv-loop μ-loop
 same-length-8 c = search needs
@@ -71,6 +72,12 @@ same-length-11 c = search needs
 
 same-length-12 : tie.Need-same-length-12 Inv-loop μ-loop
 same-length-12 c = search needs
+
+same-length-13 : tie.Need-same-length-13 Inv-loop μ-loop
+same-length-13 c = search needs
+
+same-length-14 : tie.Need-same-length-14 Inv-loop μ-loop
+same-length-14 c = search needs
 
 returns-2 : tie.Need-returns-2 Inv-loop μ-loop
 returns-2 c = search needs
@@ -93,12 +100,6 @@ loop-less c = search needs
 loop-again : tie.Need-loop-again Inv-loop μ-loop
 loop-again c = search needs
 
-same-length-13 : tie.Need-same-length-13 Inv-loop μ-loop
-same-length-13 c = search needs
-
-same-length-14 : tie.Need-same-length-14 Inv-loop μ-loop
-same-length-14 c = search needs
-
 same-length-15 : tie.Need-same-length-15 Inv-loop μ-loop
 same-length-15 c = search needs
 
@@ -110,6 +111,15 @@ same-length-17 c = search needs
 
 same-length-18 : tie.Need-same-length-18 Inv-loop μ-loop
 same-length-18 c = search needs
+
+same-length-19 : tie.Need-same-length-19 Inv-loop μ-loop
+same-length-19 c = search needs
+
+same-length-20 : tie.Need-same-length-20 Inv-loop μ-loop
+same-length-20 c = search needs
+
+same-length-21 : tie.Need-same-length-21 Inv-loop μ-loop
+same-length-21 c = search needs
 
 returns-3 : tie.Need-returns-3 Inv-loop μ-loop
 returns-3 c = search needs
@@ -130,14 +140,16 @@ run-script-spec =
     same-length-4
     same-length-5
     same-length-6
+    same-length-7
     returns
     run-rest-requires
-    same-length-7
     same-length-8
     same-length-9
     same-length-10
     same-length-11
     same-length-12
+    same-length-13
+    same-length-14
     returns-2
     slice-reshare-prefix-take-chunk
     slice-aggregate-take-chunk
@@ -145,10 +157,11 @@ run-script-spec =
     sub-turns
     loop-less
     loop-again
-    same-length-13
-    same-length-14
     same-length-15
     same-length-16
     same-length-17
     same-length-18
+    same-length-19
+    same-length-20
+    same-length-21
     returns-3)

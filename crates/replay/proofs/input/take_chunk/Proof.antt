@@ -1,6 +1,8 @@
 -- `take_chunk` is safe and ends: a line that starts within the chunk ends within it, and the next one starts further on. The lent slices keep their lengths; the measure is what is left of the chunk.
-use Prim.Native.Nat.{_-_, _≤_}
-use mathlib.Core.Path.{_≡_}
+use Prim.Native.Nat.{ℕ, _-_, _≤_}
+use mathlib.Core.Path.{_≡_, ap}
+use mathlib.Core.Logic.{⊎-elim}
+use mathlib.Core.List.{List}
 use native.Mathlib.Omega.{arith}
 use lib.ListN.{length}
 use borrow.Author.Needs.{needs}
@@ -9,16 +11,18 @@ use Rattle.replay.proofs.input.take_chunk.Statement.{statement}
 use Rattle.replay.proofs.input.take_chunk.Tie as tie
 
 abbrev Inv-loop : tie.InvT-loop
-Inv-loop chunk line₀ bytes₀ frame₀ store₀ text₀ state₀ count₀ i₀ line bytes frame store text state count i =
+Inv-loop device₀ chunk line₀ bytes₀ frame₀ store₀ text₀ out₀ run₀ count₀ i₀ device line bytes frame store text out run count i =
     (i ≤ length chunk)
+    × (run .gathered ≤ length out)
     × (length line ≡ length line₀)
     × (length bytes ≡ length bytes₀)
     × (length frame ≡ length frame₀)
     × (length store ≡ length store₀)
     × (length text ≡ length text₀)
+    × (length out ≡ length out₀)
 
 abbrev μ-loop : tie.MeasureT-loop
-μ-loop chunk line₀ bytes₀ frame₀ store₀ text₀ state₀ count₀ i₀ line bytes frame store text state count i =
+μ-loop device₀ chunk line₀ bytes₀ frame₀ store₀ text₀ out₀ run₀ count₀ i₀ device line bytes frame store text out run count i =
     length chunk - i
 
 loop-holds : tie.Need-loop-holds Inv-loop μ-loop
@@ -43,8 +47,36 @@ part-add-bytes-end c =
 add-bytes-requires : tie.Need-add-bytes-requires Inv-loop μ-loop
 add-bytes-requires c κs = search needs
 
+add-i : tie.Need-add-i Inv-loop μ-loop
+add-i c =
+    let w = end-within _ _ _ (c .before .before .before .before .before .before .before .loop-test .taken) (c .before .before .before .before .before .before .line-end .ensures) in
+    search needs
+
+run-line-requires : tie.Need-run-line-requires Inv-loop μ-loop
+run-line-requires c κs = search needs
+
+loop-less : tie.Need-loop-less Inv-loop μ-loop
+loop-less c =
+    let w = end-within _ _ _ (c .before .before .before .before .before .before .before .before .before .before .before .before .before .before .before .before .before .before .before .before .before .before .before .before .before .loop-test .taken) (c .before .before .before .before .before .before .before .before .before .before .before .before .before .before .before .before .before .before .before .before .before .before .before .before .line-end .ensures) in
+    search needs
+
+loop-again : tie.Need-loop-again Inv-loop μ-loop
+loop-again c =
+    let w = end-within _ _ _ (c .before .before .before .before .before .before .before .before .before .before .before .before .before .before .before .before .before .before .before .before .before .before .before .before .before .loop-test .taken) (c .before .before .before .before .before .before .before .before .before .before .before .before .before .before .before .before .before .before .before .before .before .before .before .before .line-end .ensures) in
+    search needs
+
+flush-requires : tie.Need-flush-requires Inv-loop μ-loop
+flush-requires c κs = search needs
+
 same-length : tie.Need-same-length Inv-loop μ-loop
-same-length c = search needs
+same-length c =
+    ⊎-elim
+    (λ w. search needs)
+    (λ w.
+    let e = ap (λ (l : List ℕ). length l) (w .8) in
+    let k = w .4 .kept .0 in
+    search needs)
+    (c .before .before .loop-test .came)
 
 same-length-2 : tie.Need-same-length-2 Inv-loop μ-loop
 same-length-2 c = search needs
@@ -58,44 +90,11 @@ same-length-4 c = search needs
 same-length-5 : tie.Need-same-length-5 Inv-loop μ-loop
 same-length-5 c = search needs
 
-returns : tie.Need-returns Inv-loop μ-loop
-returns c = search needs
-
-add-i : tie.Need-add-i Inv-loop μ-loop
-add-i c =
-    let w = end-within _ _ _ (c .before .before .before .before .before .before .before .loop-test .taken) (c .before .before .before .before .before .before .line-end .ensures) in
-    search needs
-
-run-line-requires : tie.Need-run-line-requires Inv-loop μ-loop
-run-line-requires c κs = search needs
-
-loop-less : tie.Need-loop-less Inv-loop μ-loop
-loop-less c =
-    let w = end-within _ _ _ (c .before .before .before .before .before .before .before .before .before .before .before .before .before .before .before .before .before .before .before .before .before .loop-test .taken) (c .before .before .before .before .before .before .before .before .before .before .before .before .before .before .before .before .before .before .before .before .line-end .ensures) in
-    search needs
-
-loop-again : tie.Need-loop-again Inv-loop μ-loop
-loop-again c =
-    let w = end-within _ _ _ (c .before .before .before .before .before .before .before .before .before .before .before .before .before .before .before .before .before .before .before .before .before .loop-test .taken) (c .before .before .before .before .before .before .before .before .before .before .before .before .before .before .before .before .before .before .before .before .line-end .ensures) in
-    search needs
-
 same-length-6 : tie.Need-same-length-6 Inv-loop μ-loop
 same-length-6 c = search needs
 
-same-length-7 : tie.Need-same-length-7 Inv-loop μ-loop
-same-length-7 c = search needs
-
-same-length-8 : tie.Need-same-length-8 Inv-loop μ-loop
-same-length-8 c = search needs
-
-same-length-9 : tie.Need-same-length-9 Inv-loop μ-loop
-same-length-9 c = search needs
-
-same-length-10 : tie.Need-same-length-10 Inv-loop μ-loop
-same-length-10 c = search needs
-
-returns-2 : tie.Need-returns-2 Inv-loop μ-loop
-returns-2 c = search needs
+returns : tie.Need-returns Inv-loop μ-loop
+returns c = search needs
 
 pub take-chunk-spec : {M : Type 1} → statement M
 take-chunk-spec =
@@ -109,19 +108,15 @@ take-chunk-spec =
     part-add-bytes-start
     part-add-bytes-end
     add-bytes-requires
+    add-i
+    run-line-requires
+    loop-less
+    loop-again
+    flush-requires
     same-length
     same-length-2
     same-length-3
     same-length-4
     same-length-5
-    returns
-    add-i
-    run-line-requires
-    loop-less
-    loop-again
     same-length-6
-    same-length-7
-    same-length-8
-    same-length-9
-    same-length-10
-    returns-2)
+    returns)

@@ -1,8 +1,9 @@
--- `print` is safe and ends: what is written lies within the text, since the place after a put does.
+-- `print` meets its contract: what is gathered lies within the text, since the place after a put does.
 use mathlib.Core.Path.{sym}
 use lib.Seq.{length-take-le}
 use borrow.Author.Needs.{needs}
 use Rattle.command.proofs.Within.{put-fits}
+use Rattle.replay.proofs.Answers.{printed}
 use Rattle.replay.proofs.output.print.Statement.{statement}
 use Rattle.replay.proofs.output.print.Tie as tie
 
@@ -12,32 +13,27 @@ slice-aggregate-put-word c = search needs
 put-word-requires : tie.Need-put-word-requires
 put-word-requires c κs = search needs
 
-slice-reshare-prefix-write-all : tie.Need-slice-reshare-prefix-write-all
-slice-reshare-prefix-write-all c = put-fits _ _ (c .before .before .put-word .last .1 .0) _ (c .before .before .put-word .kept .1 .0) (c .before .before .put-word .ensures .0) (c .before .before .before .before .before .before .pre)
+slice-reshare-prefix-gather : tie.Need-slice-reshare-prefix-gather
+slice-reshare-prefix-gather c = put-fits _ _ (c .before .before .put-word .last .1 .0) _ (c .before .before .put-word .kept .1 .0) (c .before .before .put-word .ensures .0) (search needs)
 
-slice-aggregate-write-all : tie.Need-slice-aggregate-write-all
-slice-aggregate-write-all c = sym (length-take-le _ _ (put-fits _ _ (c .before .before .before .put-word .last .1 .0) _ (c .before .before .before .put-word .kept .1 .0) (c .before .before .before .put-word .ensures .0) (c .before .before .before .before .before .before .before .pre)))
+slice-aggregate-gather : tie.Need-slice-aggregate-gather
+slice-aggregate-gather c = sym (length-take-le _ _ (put-fits _ _ (c .before .before .before .put-word .last .1 .0) _ (c .before .before .before .put-word .kept .1 .0) (c .before .before .before .put-word .ensures .0) (search needs)))
 
-write-all-requires : tie.Need-write-all-requires
-write-all-requires c κs = search needs
+gather-requires : tie.Need-gather-requires
+gather-requires c κs = search needs
 
 same-length : tie.Need-same-length
 same-length c = search needs
 
-returns : tie.Need-returns
-returns c = search needs
-
-slice-aggregate-write-all-2 : tie.Need-slice-aggregate-write-all-2
-slice-aggregate-write-all-2 c = search needs
-
-write-all-requires-2 : tie.Need-write-all-requires-2
-write-all-requires-2 c κs = search needs
-
 same-length-2 : tie.Need-same-length-2
 same-length-2 c = search needs
 
-returns-2 : tie.Need-returns-2
-returns-2 c = search needs
+returns : tie.Need-returns
+returns c =
+    let a = c .before .before .before .before .before .before .before .before .before .before .before .before .args in
+    let w = c .before .before .before .before .before .before .before .put-word in
+    let g = c .before .before .gather in
+    printed (a .text .now) _ (a .out .now) _ (a .n) (w .result) (a .count) (g .result) (w .ensures .0) (w .ensures .1) (g .ensures .0) (g .ensures .1)
 
 pub print-spec : {M : Type 1} → statement M
 print-spec =
@@ -45,12 +41,9 @@ print-spec =
     (tie.spec
     slice-aggregate-put-word
     put-word-requires
-    slice-reshare-prefix-write-all
-    slice-aggregate-write-all
-    write-all-requires
+    slice-reshare-prefix-gather
+    slice-aggregate-gather
+    gather-requires
     same-length
-    returns
-    slice-aggregate-write-all-2
-    write-all-requires-2
     same-length-2
-    returns-2)
+    returns)

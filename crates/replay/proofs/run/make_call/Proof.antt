@@ -7,6 +7,7 @@ use lib.Seq.{length-take-le}
 use borrow.Author.Needs.{needs}
 use Rattle.rnic.specs.declared.Rnic.{Rnic}
 use Rattle.calls.specs.Call.{called, calledStore}
+use Rattle.block.specs.Device.{rnicAt}
 use Rattle.replay.proofs.run.make_call.Statement.{statement}
 use Rattle.replay.proofs.run.make_call.Tie as tie
 
@@ -28,17 +29,17 @@ room-requires c κs = search needs
 room-requires-2 : tie.Need-room-requires-2
 room-requires-2 c κs = search needs
 
-slice-relend-prefix-call : tie.Need-slice-relend-prefix-call
-slice-relend-prefix-call c = search needs
+slice-relend-prefix-rnic-c-call : tie.Need-slice-relend-prefix-rnic-c-call
+slice-relend-prefix-rnic-c-call c = search needs
 
-slice-aggregate-call : tie.Need-slice-aggregate-call
-slice-aggregate-call c = sym (length-take-le _ _ (search needs))
+slice-aggregate-rnic-c-call : tie.Need-slice-aggregate-rnic-c-call
+slice-aggregate-rnic-c-call c = sym (length-take-le _ _ (search needs))
 
-slice-aggregate-call-2 : tie.Need-slice-aggregate-call-2
-slice-aggregate-call-2 c = sym (length-take-le _ _ (search needs))
+slice-aggregate-rnic-c-call-2 : tie.Need-slice-aggregate-rnic-c-call-2
+slice-aggregate-rnic-c-call-2 c = sym (length-take-le _ _ (search needs))
 
-call-requires : tie.Need-call-requires
-call-requires c κs = search needs
+rnic-c-call-requires : tie.Need-rnic-c-call-requires
+rnic-c-call-requires c κs = search needs
 
 tell-requires : tie.Need-tell-requires
 tell-requires c κs = search needs
@@ -52,27 +53,32 @@ same-length c = search needs
 same-length-2 : tie.Need-same-length-2
 same-length-2 c = search needs
 
+same-length-3 : tie.Need-same-length-3
+same-length-3 c = search needs
+
 returns : tie.Need-returns
 returns c =
-    let d = c .before .before .before .before .before .before .before .before .before .before in
-    let x = c .before .before .before .before .before .before .before .before .before .before .before .before .before .before .before .before .before .before .before .before .before .args in
-    made
-    (x .rnic)
-    (x .asked .number)
-    (x .asked .numbers)
-    (x .bytes .now)
-    (x .store .now)
-    (x .asked .lent)
-    (x .asked .size)
-    _
-    _
-    _
-    _
-    (d .before .before .before .before .before .before .before .room .ensures)
-    (d .before .before .before .before .before .before .room2 .ensures)
-    (search needs)
-    (d .call .ensures .0)
-    (d .call .ensures .2)
+    let d = c .before .before .before .before .before .before .before .before .before .before .before .before .before in
+    let x = c .before .before .before .before .before .before .before .before .before .before .before .before .before .before .before .before .before .before .before .before .before .before .before .before .before .before .args in (
+      c .before .before .before .before .print .ensures .0,
+      made
+          (rnicAt (x .device .now))
+          (x .asked .number)
+          (x .asked .numbers)
+          (x .bytes .now)
+          (x .store .now)
+          (x .asked .lent)
+          (x .asked .size)
+          _
+          _
+          _
+          _
+          (d .before .before .before .before .before .before .before .before .room .ensures)
+          (d .before .before .before .before .before .before .before .room2 .ensures)
+          (search needs)
+          (d .rnic-c-call .ensures .0)
+          (d .rnic-c-call .ensures .2),
+    )
 
 pub make-call-spec : {M : Type 1} → statement M
 make-call-spec =
@@ -80,12 +86,13 @@ make-call-spec =
     (tie.spec
     room-requires
     room-requires-2
-    slice-relend-prefix-call
-    slice-aggregate-call
-    slice-aggregate-call-2
-    call-requires
+    slice-relend-prefix-rnic-c-call
+    slice-aggregate-rnic-c-call
+    slice-aggregate-rnic-c-call-2
+    rnic-c-call-requires
     tell-requires
     print-requires
     same-length
     same-length-2
+    same-length-3
     returns)

@@ -1,0 +1,4 @@
+pub mod Slots
+pub mod Windows
+pub mod Applied
+pub mod Received

@@ -1,0 +1,76 @@
+-- `receive_owned` meets its contract: the part decides, and the owner's bytes are what the slot's receive gives.
+use Rattle.block.proofs.Stored.{part-at}
+use Rattle.rnic.specs.Rnic.{receivedOwned, receivedOwnedStore}
+use Rattle.domain.specs.Domain.{domainReceived, domainReceivedBytes}
+use Rattle.memory.proofs.Laws.{fits-ends}
+use Rattle.memory.specs.declared.part.Part.{Part}
+use Rattle.memory.specs.Part.{partFits}
+use lib.ListN.{length}
+use borrow.Author.Tests.{le-leb}
+use Prim.Native.Nat.{_%_}
+use native.Mathlib.Omega.{arith}
+use mathlib.Core.Path.{_≡_, refl, sym, ap, ap₂, subst, _∙_}
+use borrow.Author.Needs.{needs}
+use Rattle.device.proofs.receive.receive_owned.Statement.{statement}
+use Rattle.device.proofs.receive.receive_owned.Tie as tie
+
+load-part-requires : tie.Need-load-part-requires
+load-part-requires c κs = search needs
+
+fits-in-requires : tie.Need-fits-in-requires
+fits-in-requires c κs = search needs
+
+cast-start : tie.Need-cast-start
+cast-start c = search needs
+
+cast-end : tie.Need-cast-end
+cast-end c = search needs
+
+sub-receive-slot : tie.Need-sub-receive-slot
+sub-receive-slot c = fits-ends _ _ (sym (c .before .before .before .before .fits-in .ensures) ∙ c .before .before .before .if1 .taken) .0
+
+part-receive-slot-start : tie.Need-part-receive-slot-start
+part-receive-slot-start c = fits-ends _ _ (sym (c .before .before .before .before .fits-in .ensures) ∙ c .before .before .before .if1 .taken) .0
+
+part-receive-slot-end : tie.Need-part-receive-slot-end
+part-receive-slot-end c = fits-ends _ _ (sym (c .before .before .before .before .fits-in .ensures) ∙ c .before .before .before .if1 .taken) .1
+
+receive-slot-requires : tie.Need-receive-slot-requires
+receive-slot-requires c κs = search needs
+
+same-length : tie.Need-same-length
+same-length c = search needs
+
+returns : tie.Need-returns
+unfolding receivedOwned receivedOwnedStore domainReceived domainReceivedBytes
+returns c =
+    let a = c .before .before .before .before .before .before .before .before .before .before .before .before .before .before .args in
+    let own = c .before .before .before .before .before .before .before .before .before .load-part .ensures ∙ sym (part-at (a .words .now) _ (search needs)) in
+    let fits = ap (λ (p : Part). partFits p (length (a .store .now))) (sym own) ∙ sym (c .before .before .before .before .before .before .before .before .fits-in .ensures) ∙ c .before .before .before .before .before .before .before .if1 .taken in
+    let k = le-leb (a .stream % 4) 3 (omega arith) in
+    let e = c .before .before .receive-slot .ensures in
+    (simp (fits, k) (e .0), simp (fits, k) (e .1), simp (fits, k, e .2, own))
+
+returns-2 : tie.Need-returns-2
+unfolding receivedOwned receivedOwnedStore
+returns-2 c =
+    let a = c .before .before .before .before .before .before .before .args in
+    let own = c .before .before .load-part .ensures ∙ sym (part-at (a .words .now) _ (search needs)) in
+    let fits = ap (λ (p : Part). partFits p (length (a .store .now))) (sym own) ∙ sym (c .before .fits-in .ensures) ∙ c .if1 .left in
+    (simp fits, simp fits, simp fits)
+
+pub receive-owned-spec : {M : Type 1} → statement M
+receive-owned-spec =
+    tie.close
+    (tie.spec
+    load-part-requires
+    fits-in-requires
+    cast-start
+    cast-end
+    sub-receive-slot
+    part-receive-slot-start
+    part-receive-slot-end
+    receive-slot-requires
+    same-length
+    returns
+    returns-2)

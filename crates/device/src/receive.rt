@@ -1,0 +1,143 @@
+// Receive: the first FPDU of bytes for a stream. The phase and the framing are asked first; a segment is
+// then judged, its payload is placed, and the groups that it changed are stored.
+ghost use mathlib.Core.Path.{_≡_};
+ghost use Prim.Native.Nat.{_<_};
+ghost use lib.ListN.{length};
+ghost use Rattle.ddp.specs.Segment.{segmentRead};
+ghost use Rattle.domain.specs.Parts.{partsJudged, partsPlaced, partsAnswered, partsReceived, partsReceivedBytes};
+ghost use Rattle.rnic.specs.Rnic.{domainAt, receivedOwned, receivedOwnedStore, rnicReceived, rnicReceivedStore};
+ghost use Rattle.block.specs.Device.{rnicAt};
+ghost use Rattle.block.specs.Exchange.{streamOf};
+ghost use Rattle.device.specs.Lifted.{liftedOf};
+use crate::apply::apply;
+use crate::apply::apply_tagged;
+use crate::apply::end;
+use crate::judge::judge_untagged;
+use block::device::load_len;
+use block::device::load_part;
+use block::framing::load_framing;
+use block::phase::load_phase;
+use block::window::load_window;
+use ddp::segment::SegmentRead;
+use ddp::segment::read_segment;
+use domain::Answer;
+use memory::part::Part;
+use memory::part::fits_in;
+use memory::window::slot_named;
+use rdmap::message::judge_tagged_segment;
+use rdmap::phase::Readiness;
+
+// Takes the first FPDU of bytes for the open stream of a domain's slot, with the CRC on or off; the
+// domain's bytes are lent, which start at the start of its part.
+fn receive_first(
+    words: &mut [u64; 933],
+    domain: usize,
+    slot: usize,
+    part: Part,
+    crc: bool,
+    store: &mut [u8],
+    bytes: &[u8],
+) -> Answer
+    requires { ⌜ (domain < 4) × (slot < 4) ⌝ }
+    ensures { λ r. ⌜ (r ≡ partsAnswered (streamOf (rnicAt (now (words .entry))) domain slot) (partsJudged (domainAt (rnicAt (now (words .entry))) domain .windows) domain (streamOf (rnicAt (now (words .entry))) domain slot) (now (bytes .entry)) (segmentRead crc (now (bytes .entry)))) .answer) × (rnicAt (now (words .exit)) ≡ liftedOf (rnicAt (now (words .entry))) domain slot (partsAnswered (streamOf (rnicAt (now (words .entry))) domain slot) (partsJudged (domainAt (rnicAt (now (words .entry))) domain .windows) domain (streamOf (rnicAt (now (words .entry))) domain slot) (now (bytes .entry)) (segmentRead crc (now (bytes .entry)))))) × (now (store .exit) ≡ partsPlaced part (domainAt (rnicAt (now (words .entry))) domain .windows) domain (streamOf (rnicAt (now (words .entry))) domain slot) (now (bytes .entry)) (now (store .entry)) (segmentRead crc (now (bytes .entry)))) ⌝ }
+{
+    match read_segment(crc, bytes) {
+        SegmentRead::Wait(n) => Answer::Wait(n),
+        SegmentRead::Refused(refusal) => end(words, domain, slot, refusal),
+        SegmentRead::Tagged {
+            total,
+            header,
+            start,
+            len,
+        } => {
+            let end = start + len;
+            let w = load_window(words, domain, slot_named(header.stag));
+            let verdict = judge_tagged_segment(w, domain as u64, header, len as u64);
+            let payload = &bytes[start..end];
+            apply_tagged(
+                words,
+                domain,
+                slot,
+                total,
+                part.start,
+                store,
+                verdict,
+                payload,
+            )
+        }
+        SegmentRead::Untagged {
+            total,
+            header,
+            start,
+            len,
+        } => {
+            let end = start + len;
+            let payload = &bytes[start..end];
+            let verdict = judge_untagged(words, domain, slot, header, payload);
+            apply(
+                words,
+                domain,
+                slot,
+                total,
+                part.start,
+                store,
+                verdict,
+                payload,
+            )
+        }
+    }
+}
+
+// Takes the first FPDU of bytes for the stream of a domain's slot; the domain's bytes are lent.
+fn receive_slot(
+    words: &mut [u64; 933],
+    domain: usize,
+    slot: usize,
+    part: Part,
+    store: &mut [u8],
+    bytes: &[u8],
+) -> Answer
+    requires { ⌜ (domain < 4) × (slot < 4) ⌝ }
+    ensures { λ r. ⌜ (r ≡ partsReceived (domainAt (rnicAt (now (words .entry))) domain .windows) domain (streamOf (rnicAt (now (words .entry))) domain slot) (now (bytes .entry)) .answer) × (rnicAt (now (words .exit)) ≡ liftedOf (rnicAt (now (words .entry))) domain slot (partsReceived (domainAt (rnicAt (now (words .entry))) domain .windows) domain (streamOf (rnicAt (now (words .entry))) domain slot) (now (bytes .entry)))) × (now (store .exit) ≡ partsReceivedBytes part (domainAt (rnicAt (now (words .entry))) domain .windows) domain (streamOf (rnicAt (now (words .entry))) domain slot) (now (bytes .entry)) (now (store .entry))) ⌝ }
+{
+    let phase = load_phase(words, domain, slot);
+    match phase.ready() {
+        Readiness::Ready => {}
+        Readiness::NotReady(number) => {
+            return Answer::Refused(number);
+        }
+    }
+    let framing = load_framing(words, domain, slot);
+    receive_first(words, domain, slot, part, framing.crc, store, bytes)
+}
+
+// Takes the first FPDU of bytes for a stream in range, with a store of the right length: the owner is
+// lent its own part.
+fn receive_owned(words: &mut [u64; 933], store: &mut [u8], stream: u64, bytes: &[u8]) -> Answer
+    requires { ⌜ stream < 16 ⌝ }
+    ensures { λ r. ⌜ (r ≡ receivedOwned (rnicAt (now (words .entry))) (length (now (store .entry))) stream (now (bytes .entry)) .answer) × (rnicAt (now (words .exit)) ≡ receivedOwned (rnicAt (now (words .entry))) (length (now (store .entry))) stream (now (bytes .entry)) .rnic) × (now (store .exit) ≡ receivedOwnedStore (rnicAt (now (words .entry))) stream (now (bytes .entry)) (now (store .entry))) ⌝ }
+{
+    let domain = (stream / 4) as usize;
+    let slot = (stream % 4) as usize;
+    let part = load_part(words, domain);
+    if fits_in(part, store.len()) {
+        let start = part.start as usize;
+        let end = part.end as usize;
+        return receive_slot(words, domain, slot, part, &mut store[start..end], bytes);
+    }
+    Answer::Refused(9)
+}
+
+// Takes the first FPDU of bytes for a stream; the store is lent.
+pub fn receive(words: &mut [u64; 933], store: &mut [u8], stream: u64, bytes: &[u8]) -> Answer
+    ensures { λ r. ⌜ (r ≡ rnicReceived (rnicAt (now (words .entry))) (length (now (store .entry))) stream (now (bytes .entry)) .answer) × (rnicAt (now (words .exit)) ≡ rnicReceived (rnicAt (now (words .entry))) (length (now (store .entry))) stream (now (bytes .entry)) .rnic) × (now (store .exit) ≡ rnicReceivedStore (rnicAt (now (words .entry))) stream (now (bytes .entry)) (now (store .entry))) ⌝ }
+{
+    if stream <= 15 {
+        let len = load_len(words);
+        if store.len() == len as usize {
+            return receive_owned(words, store, stream, bytes);
+        }
+        return Answer::Refused(2);
+    }
+    Answer::Refused(1)
+}

@@ -1,0 +1,135 @@
+// Calls on a window: registered and dropped; and the questions about a domain's windows.
+ghost use mathlib.Core.Path.{_≡_};
+ghost use Prim.Native.Nat.{_<_};
+ghost use Rattle.memory.specs.Window.{registeredIn, droppedIn, liveCount, lowestFree};
+ghost use Rattle.rnic.specs.Rnic.{domainAt, rnicRegistered, rnicDropped, rnicLive, rnicFree};
+ghost use Rattle.block.specs.Device.{rnicAt};
+ghost use Rattle.device.specs.Lifted.{windowOf, withWindowOf};
+use block::device::load_part;
+use block::window::load_live;
+use block::window::load_window;
+use block::window::store_window;
+use memory::part::Outcome;
+use memory::window::drop_in;
+use memory::window::register_in;
+use rnic::Count;
+
+// Registers the window of a domain's slot.
+fn register_slot(
+    words: &mut [u64; 933],
+    domain: usize,
+    slot: usize,
+    key: u64,
+    base: u64,
+    len: u64,
+    place: u64,
+    rights: u64,
+) -> Outcome
+    requires { ⌜ (domain < 4) × (slot < 16) ⌝ }
+    ensures { λ r. ⌜ (r ≡ registeredIn (windowOf (rnicAt (now (words .entry))) domain slot) (domainAt (rnicAt (now (words .entry))) domain .part) key base len place rights .outcome) × (rnicAt (now (words .exit)) ≡ withWindowOf (rnicAt (now (words .entry))) domain slot (registeredIn (windowOf (rnicAt (now (words .entry))) domain slot) (domainAt (rnicAt (now (words .entry))) domain .part) key base len place rights .window)) ⌝ }
+{
+    let w = load_window(words, domain, slot);
+    let part = load_part(words, domain);
+    let done = register_in(w, part, key, base, len, place, rights);
+    let outcome = done.outcome;
+    let after = done.window;
+    store_window(words, domain, slot, after);
+    outcome
+}
+
+// Registers a window.
+pub fn register(
+    words: &mut [u64; 933],
+    window: u64,
+    key: u64,
+    base: u64,
+    len: u64,
+    place: u64,
+    rights: u64,
+) -> Outcome
+    ensures { λ r. ⌜ (r ≡ rnicRegistered (rnicAt (now (words .entry))) window key base len place rights .outcome) × (rnicAt (now (words .exit)) ≡ rnicRegistered (rnicAt (now (words .entry))) window key base len place rights .rnic) ⌝ }
+{
+    if window <= 63 {
+        let domain = (window / 16) as usize;
+        let slot = (window % 16) as usize;
+        return register_slot(words, domain, slot, key, base, len, place, rights);
+    }
+    Outcome::Refused(1)
+}
+
+// Drops the window of a domain's slot: it is dead, and its key is kept.
+pub(crate) fn drop_slot(words: &mut [u64; 933], domain: usize, slot: usize) -> Outcome
+    requires { ⌜ (domain < 4) × (slot < 16) ⌝ }
+    ensures { λ r. ⌜ (r ≡ droppedIn (windowOf (rnicAt (now (words .entry))) domain slot) .outcome) × (rnicAt (now (words .exit)) ≡ withWindowOf (rnicAt (now (words .entry))) domain slot (droppedIn (windowOf (rnicAt (now (words .entry))) domain slot) .window)) ⌝ }
+{
+    let w = load_window(words, domain, slot);
+    let done = drop_in(w);
+    let outcome = done.outcome;
+    let after = done.window;
+    store_window(words, domain, slot, after);
+    outcome
+}
+
+// Drops a window.
+pub fn drop_window(words: &mut [u64; 933], window: u64) -> Outcome
+    ensures { λ r. ⌜ (r ≡ rnicDropped (rnicAt (now (words .entry))) window .outcome) × (rnicAt (now (words .exit)) ≡ rnicDropped (rnicAt (now (words .entry))) window .rnic) ⌝ }
+{
+    if window <= 63 {
+        let domain = (window / 16) as usize;
+        let slot = (window % 16) as usize;
+        return drop_slot(words, domain, slot);
+    }
+    Outcome::Refused(1)
+}
+
+// How many windows of a domain are live.
+fn count_live(words: &[u64; 933], domain: usize) -> u32
+    requires { ⌜ domain < 4 ⌝ }
+    ensures { λ r. ⌜ r ≡ liveCount (domainAt (rnicAt (now (words .entry))) domain .windows) ⌝ }
+{
+    let mut n: u32 = 0;
+    let mut i: usize = 0;
+    while i < 16 {
+        if load_live(words, domain, i) {
+            n += 1;
+        }
+        i += 1;
+    }
+    n
+}
+
+// How many windows of a domain are live; a number over 3 is refused.
+pub fn live_count(words: &[u64; 933], number: u64) -> Count
+    ensures { λ r. ⌜ r ≡ rnicLive (rnicAt (now (words .entry))) number ⌝ }
+{
+    if number <= 3 {
+        return Count::Counted(count_live(words, number as usize));
+    }
+    Count::Refused(1)
+}
+
+// The lowest slot of a domain whose window is dead, 16 where none is.
+fn find_free(words: &[u64; 933], domain: usize) -> u32
+    requires { ⌜ domain < 4 ⌝ }
+    ensures { λ r. ⌜ r ≡ lowestFree (domainAt (rnicAt (now (words .entry))) domain .windows) ⌝ }
+{
+    let mut i: u32 = 0;
+    while i < 16 {
+        if load_live(words, domain, i as usize) {
+            i += 1;
+        } else {
+            return i;
+        }
+    }
+    i
+}
+
+// Which of a domain's sixteen slots is the lowest free, 16 if none; a number over 3 is refused.
+pub fn lowest_free(words: &[u64; 933], number: u64) -> Count
+    ensures { λ r. ⌜ r ≡ rnicFree (rnicAt (now (words .entry))) number ⌝ }
+{
+    if number <= 3 {
+        return Count::Counted(find_free(words, number as usize));
+    }
+    Count::Refused(1)
+}

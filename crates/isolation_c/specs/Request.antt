@@ -1,0 +1,28 @@
+-- A call as a host in C makes it, and which call of the device it is; the numbers of an opening, and whether its answer says done.
+use Prim.Native.Nat.{ℕ}
+use mathlib.Core.Bool.{Bool}
+use mathlib.Core.List.{List, [], _∷_}
+use lib.ListN.{getD}
+use lib.Dec.{eqb}
+use Rattle.isolation.specs.Book.{Call, Opening}
+use Rattle.isolation.specs.Book.Call.{receive}
+use Rattle.isolation.specs.Number.{Numbered, callOf}
+
+-- a request of `rnic_c_call` with a number from 1 on, since number 0 opens another device and so starts another run; or one of
+-- `rnic_c_receive` with its stream, its bytes and the length of the slice lent. The third entry, `rnic_c_crc32c`, is given no device
+pub data Request : Type 0 where
+  byNumber : (c : Numbered) → Request
+  receiving : (stream : ℕ) → (input : List ℕ) → (size : ℕ) → Request
+
+-- which call of the device it is, whichever entry makes it
+abbrev pub callIn : Request → Call
+callIn (byNumber c) = callOf c
+callIn (receiving stream input size) = receive stream input size
+
+-- the nine numbers of an opening: the store's length, then the start and the end of each domain's part
+abbrev pub openingNumbers : Opening → List ℕ
+openingNumbers o = o .len ∷ o .s₀ ∷ o .e₀ ∷ o .s₁ ∷ o .e₁ ∷ o .s₂ ∷ o .e₂ ∷ o .s₃ ∷ o .e₃ ∷ []
+
+-- whether an answer's words say done: word 0 is 1
+abbrev pub saysDone : List ℕ → Bool
+saysDone words = eqb (getD words 0 0) 1

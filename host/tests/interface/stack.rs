@@ -1,0 +1,164 @@
+//! The stack that each entry takes, which the header states: measured over random nights, each call on a stack of its own.
+//!
+//! `cargo test --release stack -- --nocapture` writes the table.
+
+use std::collections::BTreeMap;
+
+use host::raw::{call, kind, rnic_c_call, rnic_c_crc32c, rnic_c_receive, Rnic, Words};
+use oracle::command::Command;
+
+use crate::header::{defined, header};
+use crate::support::numbered::{encode, text};
+use crate::support::painted::Painted;
+use crate::support::{night, Calls, Program};
+
+/// The entries, by which a row of the table has its columns.
+const ENTRIES: [&str; 2] = ["rnic_c_call", "rnic_c_receive"];
+
+/// A device whose calls are measured: by their number, or receive by its own entry.
+struct Measured {
+    state: Box<Rnic>,
+    stack: Painted,
+    alone: bool,
+    depths: BTreeMap<String, usize>,
+}
+
+impl Measured {
+    /// Starts with the state of all zeros.
+    fn new(alone: bool) -> Self {
+        Measured {
+            state: Box::new(Rnic::ZERO),
+            stack: Painted::new(),
+            alone,
+            depths: BTreeMap::new(),
+        }
+    }
+}
+
+impl Calls for Measured {
+    fn call(&mut self, command: &Command, store: &mut [u8]) -> String {
+        let Some((number, arguments, bytes)) = encode(command) else {
+            return String::from("no call of the device");
+        };
+        let mut answer: Words = [0; 8];
+        let device = &raw mut *self.state as usize;
+        let (lent, lent_length) = (store.as_mut_ptr() as usize, store.len());
+        let (read, read_length) = (bytes.as_ptr() as usize, bytes.len());
+        let written = &raw mut answer as usize;
+        let (entry, rest) = if self.alone && number == call::RECEIVE {
+            let stream = arguments[0] as usize;
+            let rest = [stream, read, read_length, written, 0];
+            (rnic_c_receive as *const (), rest)
+        } else {
+            let given = &raw const arguments as usize;
+            let rest = [number as usize, given, read, read_length, written];
+            (rnic_c_call as *const (), rest)
+        };
+        let [a, b, c, d, e] = rest;
+        let words = [device, lent, lent_length, a, b, c, d, e];
+        // SAFETY: these are the arguments of the entry in their order, and all that they point at is held for the call.
+        let depth = unsafe { self.stack.call(entry, words) };
+        let most = self
+            .depths
+            .entry(label(number, bytes, &answer))
+            .or_default();
+        *most = depth.max(*most);
+        text(command, answer)
+    }
+}
+
+/// Names a call by its number and by what it was answered.
+fn label(number: u64, bytes: &[u8], answer: &Words) -> String {
+    let name = match number {
+        call::OPEN => "open",
+        call::OPEN_STREAM => "open_stream",
+        call::CLOSE_STREAM => "close_stream",
+        call::REGISTER => "register",
+        call::DROP_WINDOW => "drop_window",
+        call::POST => "post",
+        call::TAKE => "take",
+        call::LIVE_COUNT => "live_count",
+        call::LOWEST_FREE => "lowest_free",
+        _ => received(bytes, answer[0]),
+    };
+    match answer[0] {
+        kind::REFUSED => format!("{name}, refused"),
+        _ => String::from(name),
+    }
+}
+
+/// Names what was received by the answer's kind and, where that does not tell it, the opcode.
+fn received(bytes: &[u8], kind: u64) -> &'static str {
+    match (kind, bytes.get(3).map(|control| control & 15)) {
+        (kind::WAIT, _) => "receive: Wait",
+        (kind::TAKEN, Some(0)) => "receive: Write",
+        (kind::TAKEN, Some(1)) => "receive: Read Request",
+        (kind::TAKEN, _) => "receive: Send that goes on",
+        (kind::SENT, _) => "receive: Send",
+        (kind::SENT_INVALIDATING, _) => "receive: Send with Invalidate",
+        (kind::TERMINATED, _) => "receive: Terminate",
+        (kind::ENDED, _) => "receive: the peer's bytes refused",
+        _ => "receive",
+    }
+}
+
+/// Gives the most bytes of stack that each call takes over some nights.
+fn depths(alone: bool) -> BTreeMap<String, usize> {
+    let mut measured = Measured::new(alone);
+    for seed in 1..6 {
+        let mut program = Program::new(measured, 4096);
+        for line in night(4096, seed, 2000) {
+            program.run_line(&line);
+        }
+        measured = program.device;
+    }
+    measured.depths
+}
+
+/// Gives the most bytes of stack that the CRC takes.
+fn crc_depth() -> usize {
+    let bytes = [7; 4096];
+    let mut stack = Painted::new();
+    let depth = |length: usize| {
+        let words = [bytes.as_ptr() as usize, length, 0, 0, 0, 0, 0, 0];
+        // SAFETY: the arguments are a pointer and a length within the bytes.
+        unsafe { stack.call(rnic_c_crc32c as *const (), words) }
+    };
+    [0, 1, 63, 4096].map(depth).into_iter().fold(0, usize::max)
+}
+
+#[test]
+fn stack_of_the_entries() {
+    let columns = [false, true].map(depths);
+    println!(
+        "| bytes of stack | {} |\n|---|---:|---:|",
+        ENTRIES.join(" | ")
+    );
+    for name in columns[0].keys() {
+        let of = |column: usize| match columns[column].get(name) {
+            Some(depth) if column == 0 || name.starts_with("receive") => depth.to_string(),
+            _ => String::from("–"),
+        };
+        println!("| {name} | {} | {} |", of(0), of(1));
+    }
+    println!("\nrnic_c_crc32c: {}", crc_depth());
+    assert_eq!(columns[0].len(), 27, "every call and answer is met");
+    let receives = columns[1]
+        .iter()
+        .filter(|(name, _)| name.starts_with("receive"));
+    let most = [
+        ("RNIC_C_CALL_STACK", columns[0].values().max().copied()),
+        (
+            "RNIC_C_RECEIVE_STACK",
+            receives.map(|(_, depth)| *depth).max(),
+        ),
+        ("RNIC_C_CRC32C_STACK", Some(crc_depth())),
+    ];
+    for (name, depth) in most {
+        let stated = defined(&header(), name);
+        assert!(
+            depth.map(|depth| depth as u64) <= stated,
+            "{name}: {depth:?}, and not {stated:?}"
+        );
+    }
+}
