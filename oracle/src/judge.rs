@@ -121,7 +121,9 @@ impl Device {
                     return Err(no::MALFORMED);
                 }
                 let read = rdmap::read_request(segment.payload);
-                self.judge_source(stream, &read)?;
+                if read.size > 0 {
+                    self.judge_source(stream, &read)?;
+                }
                 Ok(Effect::Read(read))
             }
             _ => {
@@ -164,7 +166,7 @@ impl Device {
         })
     }
 
-    /// Judges the source that a Read Request names.
+    /// Judges the source that a Read Request of at least one byte names.
     fn judge_source(&self, stream: usize, read: &ReadRequest) -> Result<(), Fault> {
         let window = self
             .window(stream, read.source_stag)

@@ -169,19 +169,40 @@ fn eight_reads_wait_and_a_taken_one_frees_its_room() {
 }
 
 #[test]
-fn read_source_is_judged_whatever_the_size() {
+fn read_source_is_judged_of_a_byte_and_more() {
     let refused = |rights, draft: &Draft| Bench::new(rights).refused(draft);
-    assert_eq!(refused(2, &read(1, 109, 0)), refusal::SOURCE_BOUNDS);
-    assert_eq!(refused(2, &read(1, 99, 0)), refusal::SOURCE_BOUNDS);
+    assert_eq!(refused(2, &read(1, 108, 1)), refusal::SOURCE_BOUNDS);
+    assert_eq!(refused(2, &read(1, 99, 1)), refusal::SOURCE_BOUNDS);
     assert_eq!(refused(2, &read(1, 101, 8)), refusal::SOURCE_BOUNDS);
     assert_eq!(refused(2, &read(1, u64::MAX, 1)), refusal::SOURCE_BOUNDS);
     assert_eq!(refused(2, &read(1, u64::MAX, 2)), refusal::SOURCE_WRAP);
-    assert_eq!(refused(1, &read(1, 100, 0)), refusal::NO_READ_RIGHT);
-    let mut other = read(1, 100, 0);
+    assert_eq!(refused(1, &read(1, 100, 1)), refusal::NO_READ_RIGHT);
+    let mut other = read(1, 100, 1);
     other.stag = 0x1209;
     assert_eq!(refused(2, &other), refusal::SOURCE_OTHER_DOMAIN);
     other.stag = 0x309;
     assert_eq!(refused(2, &other), refusal::SOURCE_NOT_LIVE);
+}
+
+#[test]
+fn source_of_an_empty_read_is_not_looked_at() {
+    for (rights, stag, to) in [
+        (2, 0x209, 109),
+        (2, 0x209, u64::MAX),
+        (1, 0x209, 100),
+        (2, 0x1209, 100),
+        (2, 0x309, 100),
+        (2, 0, 0),
+    ] {
+        let mut bench = Bench::new(rights);
+        let empty = Draft {
+            stag,
+            ..read(1, to, 0)
+        };
+        let answer = bench.receive(&empty);
+        assert!(matches!(answer, Answer::Taken { total: 52, .. }));
+        assert_eq!(bench.device.take_read(0).unwrap().source_to, to);
+    }
 }
 
 #[test]

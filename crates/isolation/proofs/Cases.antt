@@ -1,4 +1,4 @@
--- The twelve worked cases that the paper marks to be proved, and a slice of two FPDUs, as one table: what each gives, what it must
+-- The twelve worked cases that the paper marks to be proved, a slice of two FPDUs, and empty reads, as one table: what each gives, what it must
 -- give, and one test that antt computes over the whole table.
 -- Assumes nothing.
 use mathlib.Core.Path.{_≡_, refl}
@@ -69,6 +69,11 @@ paper = 0x00 ∷ 0x12 ∷ 0xC1 ∷ 0x40 ∷ 0x00 ∷ 0x00 ∷ 0x11 ∷ 0x05 ∷ 
 abbrev send : List ℕ
 send = be16 23 ++ (0x41 ∷ 0x43 ∷ (be32 0 ++ (be32 0 ++ (be32 1 ++ (be32 0 ++ (1 ∷ 2 ∷ 3 ∷ 4 ∷ 5 ∷ 0 ∷ 0 ∷ 0 ∷ 0 ∷ 0 ∷ 0 ∷ 0 ∷ []))))))
 
+-- a Read Request's FPDU of a source STag and a size, from offset 0, MSN 1
+abbrev request : ℕ → ℕ → List ℕ
+request stag size =
+    be16 46 ++ (0x41 ∷ 0x41 ∷ (be32 0 ++ (be32 1 ++ (be32 1 ++ (be32 0 ++ (be32 7 ++ (be64 8 ++ (be32 size ++ (be32 stag ++ (be64 0 ++ (0 ∷ 0 ∷ 0 ∷ 0 ∷ [])))))))))))
+
 -- what receive answers
 abbrev answer : Rnic → ℕ → List ℕ → List ℕ
 answer b stream input = code (rnicReceived b 4096 stream input .answer)
@@ -107,6 +112,13 @@ log =
     -- A 5-byte Send, buffer at 1,100: of 5 bytes, Taken 32; of 4, refusal 32
     ∷ gives (answer (rnicPosted (device 4) 4 1100 5 .rnic) 4 send) (2 ∷ 32 ∷ 1100 ∷ 5 ∷ 3 ∷ [])
     ∷ gives (answer (rnicPosted (device 4) 4 1100 4 .rnic) 4 send) (5 ∷ 32 ∷ 1 ∷ 2 ∷ 0x05 ∷ [])
+    -- A read of no bytes is queued without a look at its source, STag 0 or another domain's; one of a byte is refused
+    ∷ gives (answer (device 4) 4 (request 0 0)) (1 ∷ 52 ∷ [])
+    ∷ gives (answer (device 4) 4 (request 0 1)) (5 ∷ 38 ∷ 0 ∷ 1 ∷ 0x03 ∷ [])
+    ∷ gives (answer (device 0) 0 (request 0 0)) (1 ∷ 52 ∷ [])
+    ∷ gives (answer (device 0) 0 (request 0 1)) (5 ∷ 38 ∷ 0 ∷ 1 ∷ 0x00 ∷ [])
+    ∷ gives (answer (device 0) 0 (request 0x1105 0)) (1 ∷ 52 ∷ [])
+    ∷ gives (answer (device 0) 0 (request 0x1105 1)) (5 ∷ 38 ∷ 0 ∷ 1 ∷ 0x03 ∷ [])
     -- "handles that first FPDU only": a second one in the slice, which would write other bytes at the same place, is not looked at
     ∷ gives (answer (device 4) 4 (paper ++ write 0x1105 4096 (1 ∷ 2 ∷ 3 ∷ 4 ∷ []))) (1 ∷ 24 ∷ [])
     ∷ gives (rnicReceivedStore (device 4) 4 (paper ++ write 0x1105 4096 (1 ∷ 2 ∷ 3 ∷ 4 ∷ [])) store) (put store 1024 beef)

@@ -425,9 +425,10 @@ module _ (p : Part) (n : ℕ) where
   read-lands : (w : Window) (number : ℕ) (last : Bool) (payload : List ℕ) → Lands p (readVerdict w number last payload) n
   unfolding readVerdict
   read-lands w number last payload =
-      pick-lands (both last (eqb (length payload) 28))
-      (sourceOf w (requestAt payload) (foundIn w number (requestAt payload .«source_stag»))) (VerdictRefused malformed)
-      (source-lands w (requestAt payload) (foundIn w number (requestAt payload .«source_stag»))) tt
+      let r = requestAt payload in
+      let judged = sourceOf w r (foundIn w number (r .«source_stag»)) in
+      pick-lands (both last (eqb (length payload) 28)) (pick (eqb (r .size) 0) (Read r) judged) (VerdictRefused malformed)
+      (pick-lands (eqb (r .size) 0) (Read r) judged tt (source-lands w r (foundIn w number (r .«source_stag»)))) tt
 
   terminate-lands : (last : Bool) (payload : List ℕ) → Lands p (terminateVerdict last payload) n
   unfolding terminateVerdict

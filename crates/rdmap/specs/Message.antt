@@ -100,7 +100,7 @@ sendVerdict w domain b h start end =
     (SendLast (b .start + start) (opcodeOf (h .control)) (b .start) end NoStag))
     (SendMore (b .start + start) (opcodeOf (h .control)) end)
 
--- 38: "read source, whatever the size: other domain, not live, wrap, bounds, no read right, asked in this order"
+-- 38, of a read of at least one byte: "other domain, not live, wrap, bounds, no read right, asked in this order"
 abbrev pub sourceIn : Window → ReadRequest → Span → Verdict
 sourceIn w r Wrap = Refused sourceWrap
 sourceIn w r Outside = Refused sourceBounds
@@ -111,11 +111,13 @@ sourceOf w r Foreign = Refused sourceForeign
 sourceOf w r Missing = Refused sourceMissing
 sourceOf w r (Slot slot) = sourceIn w r (spanned w (r .«source_to») (r .size))
 
--- 37 "Read Request not 28 bytes, or L clear"
+-- 37 "Read Request not 28 bytes, or L clear". The source is asked "for non-zero length RDMA Read Request Messages" (RFC 5040, section 7.2): a read of
+-- no bytes is queued without a look at its source STag or offset
 unfoldable pub readVerdict : Window → ℕ → Bool → List ℕ → Verdict
 readVerdict w domain last payload =
     pick (both last (eqb (length payload) 28))
-    (sourceOf w (requestAt payload) (foundIn w domain (requestAt payload .«source_stag»)))
+    (pick (eqb (requestAt payload .size) 0) (Read (requestAt payload))
+    (sourceOf w (requestAt payload) (foundIn w domain (requestAt payload .«source_stag»))))
     (Refused malformed)
 
 -- 37 "Terminate under 4, or L clear"; "Terminate payload: layer 4 bits, type 4 bits, code 8 bits"

@@ -25,7 +25,7 @@ invalidateMissing = row 36 0 1 0x00
 abbrev pub malformed : Refusal
 malformed = row 37 0 2 0xFF
 
--- "read source, whatever the size: other domain, not live, wrap, bounds, no read right, asked in this order"
+-- "read source: other domain, not live, wrap, bounds, no read right, asked in this order", of a read of at least one byte
 abbrev pub sourceForeign : Refusal
 sourceForeign = row 38 0 1 0x03
 

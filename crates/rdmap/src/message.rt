@@ -268,13 +268,16 @@ fn judge_source(w: Window, read: ReadRequest, found: Found) -> Verdict
     }
 }
 
-// Judges a Read Request.
+// Judges a Read Request; the source of an empty one is not looked at.
 fn judge_read(w: Window, domain: u64, last: bool, payload: &[u8]) -> Verdict
     ensures { λ r. ⌜ r ≡ readVerdict w domain last (now (payload .entry)) ⌝ }
 {
     if last {
         if payload.len() == 28 {
             let read = request_of(payload);
+            if read.size == 0 {
+                return Verdict::Read(read);
+            }
             let found = memory::window::find_in(w, domain, read.source_stag);
             return judge_source(w, read, found);
         }

@@ -143,8 +143,8 @@ fn read(prng: &mut Prng, device: &Device, stream: usize) -> Draft {
     let mut draft = Draft::new(false, rdmap::READ_REQUEST);
     draft.qn = rdmap::READ_QUEUE;
     draft.msn = device.streams[stream].next_msn[1];
-    let mut size = 0;
     (draft.stag, draft.to) = (prng.draw() as u32, prng.draw());
+    let mut size = draft.to as u32 % 4;
     if let Some((stag, window)) = live_window(prng, device, stream, RIGHT_READ) {
         size = length_up_to(prng, window.length) as u32;
         draft.stag = stag;
