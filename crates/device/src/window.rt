@@ -2,6 +2,7 @@
 ghost use mathlib.Core.Path.{_≡_};
 ghost use Prim.Native.Nat.{_<_};
 ghost use Rattle.memory.specs.Window.{registeredIn, droppedIn, liveCount, lowestFree};
+ghost use Rattle.memory.specs.Marks.{liveMarks};
 ghost use Rattle.rnic.specs.Rnic.{domainAt, rnicRegistered, rnicDropped, rnicLive, rnicFree};
 ghost use Rattle.block.specs.Device.{rnicAt};
 ghost use Rattle.device.specs.Lifted.{windowOf, withWindowOf};
@@ -9,6 +10,9 @@ use block::device::load_part;
 use block::window::load_live;
 use block::window::load_window;
 use block::window::store_window;
+use memory::marks::count;
+use memory::marks::lowest_clear;
+use memory::marks::push;
 use memory::part::Outcome;
 use memory::window::drop_in;
 use memory::window::register_in;
@@ -82,20 +86,26 @@ pub fn drop_window(words: &mut [u64; 933], window: u64) -> Outcome
     Outcome::Refused(1)
 }
 
+// The live marks of a domain's windows, bit i for slot i.
+fn load_marks(words: &[u64; 933], domain: usize) -> u16
+    requires { ⌜ domain < 4 ⌝ }
+    ensures { λ r. ⌜ r ≡ liveMarks (domainAt (rnicAt (now (words .entry))) domain .windows) ⌝ }
+{
+    let mut marks: u16 = 0;
+    let mut i: usize = 16;
+    while 0 < i {
+        i -= 1;
+        marks = push(marks, load_live(words, domain, i));
+    }
+    marks
+}
+
 // How many windows of a domain are live.
 fn count_live(words: &[u64; 933], domain: usize) -> u32
     requires { ⌜ domain < 4 ⌝ }
     ensures { λ r. ⌜ r ≡ liveCount (domainAt (rnicAt (now (words .entry))) domain .windows) ⌝ }
 {
-    let mut n: u32 = 0;
-    let mut i: usize = 0;
-    while i < 16 {
-        if load_live(words, domain, i) {
-            n += 1;
-        }
-        i += 1;
-    }
-    n
+    count(load_marks(words, domain))
 }
 
 // How many windows of a domain are live; a number over 3 is refused.
@@ -113,15 +123,7 @@ fn find_free(words: &[u64; 933], domain: usize) -> u32
     requires { ⌜ domain < 4 ⌝ }
     ensures { λ r. ⌜ r ≡ lowestFree (domainAt (rnicAt (now (words .entry))) domain .windows) ⌝ }
 {
-    let mut i: u32 = 0;
-    while i < 16 {
-        if load_live(words, domain, i as usize) {
-            i += 1;
-        } else {
-            return i;
-        }
-    }
-    i
+    lowest_clear(load_marks(words, domain))
 }
 
 // Which of a domain's sixteen slots is the lowest free, 16 if none; a number over 3 is refused.

@@ -1,11 +1,9 @@
--- Laws that several proofs cite: tests on numbers that are the same test, what the range tests bound, and one step of each
--- recursion over a list.
+-- Laws that several proofs cite: tests on numbers that are the same test, what the range tests bound, and entries moved up.
 use Prim.Native.Nat.{ℕ, _+_, _≤_, _<_}
-use mathlib.Core.Path.{_≡_, refl, ap}
+use mathlib.Core.Path.{_≡_, refl}
 use mathlib.Core.Bool.{Bool, true, false}
 use mathlib.Core.List.{List, [], _∷_, _++_}
 use native.Mathlib.Omega.{arith}
-use native.Mathlib.Numerals.{add-one}
 use native.Mathlib.Decide.{decLt}
 use lib.ListN.{length, getD, drop, drop-of-length-le}
 use lib.Seq.{drop-cons}
@@ -14,9 +12,8 @@ use borrow.Author.Tests.{leb-true, leb-false, le-leb, lt-leb}
 use Rattle.wire.specs.Wire.{pick, both}
 use Rattle.wire.proofs.Laws.{both-true}
 use Rattle.memory.specs.Part.{inPart, partFits}
-use Rattle.memory.specs.Window.{inRange, windowFits, noWindow, windowAt, liveCount, lowestFree}
+use Rattle.memory.specs.Window.{inRange, windowFits}
 use Rattle.memory.specs.declared.part.Part.{Part}
-use Rattle.memory.specs.declared.window.Window.{Window}
 
 -- two tests of which each follows from the other
 pub leb-same : (a b c d : ℕ) → (a ≤ b → c ≤ d) → (c ≤ d → a ≤ b) → leb a b ≡ leb c d
@@ -76,24 +73,6 @@ module _ (key rights : ℕ) (e : inRange key rights ≡ true) where
   pub rights-bound : rights ≤ 3
   unfolding rightsIn
   rights-bound = leb-true _ _ (both-right (leb 1 rights) (leb rights 3) (both-right keyIn rightsIn halves))
-
--- one window more, and none
-module _ (ws : List Window) (i : ℕ) where
-  pub live-step : i < length ws → liveCount (drop i ws) ≡ pick (windowAt ws i .live) 1 0 + liveCount (drop (i + 1) ws)
-  unfolding liveCount
-  live-step h = rw (add-one, drop-cons ws i noWindow h)
-
-  pub live-none : length ws ≤ i → liveCount (drop i ws) ≡ 0
-  unfolding liveCount
-  live-none h = ap liveCount (drop-of-length-le ws h)
-
-  pub free-step : i < length ws → lowestFree (drop i ws) ≡ pick (windowAt ws i .live) (1 + lowestFree (drop (i + 1) ws)) 0
-  unfolding lowestFree
-  free-step h = rw (add-one, drop-cons ws i noWindow h)
-
-  pub free-none : length ws ≤ i → lowestFree (drop i ws) ≡ 0
-  unfolding lowestFree
-  free-none h = ap lowestFree (drop-of-length-le ws h)
 
 -- eight entries without the first, and another at the end
 pub shifted :

@@ -1,3 +1,4 @@
 pub mod Part
 pub mod Window
+pub mod Marks
 pub mod Buffer

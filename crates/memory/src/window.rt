@@ -2,6 +2,10 @@
 ghost use mathlib.Core.Path.{_≡_};
 ghost use Prim.Native.Nat.{_<_};
 ghost use Rattle.memory.specs.Window.{inRange, windowFits, keeping, refusing, entering, registeredIn, registered, droppedIn, dropped, liveCount, lowestFree, named, slotNamed, foundIn, wraps, spanned};
+ghost use Rattle.memory.specs.Marks.{liveMarks};
+use crate::marks::count;
+use crate::marks::lowest_clear;
+use crate::marks::push;
 use crate::part::Outcome;
 use crate::part::Part;
 use crate::part::inside;
@@ -201,36 +205,32 @@ pub fn drop_window(windows: [Window; 16], slot: u64) -> Registered
     entered(windows, i, done)
 }
 
+// The live marks of the windows, bit i for slot i.
+fn gather(windows: [Window; 16]) -> u16
+    ensures { λ r. ⌜ r ≡ liveMarks windows ⌝ }
+{
+    let mut marks: u16 = 0;
+    let mut i: usize = 16;
+    while 0 < i {
+        i -= 1;
+        let w = windows[i];
+        marks = push(marks, w.live);
+    }
+    marks
+}
+
 // How many windows are live.
 pub fn live_count(windows: [Window; 16]) -> u32
     ensures { λ r. ⌜ r ≡ liveCount windows ⌝ }
 {
-    let mut n: u32 = 0;
-    let mut i: usize = 0;
-    while i < 16 {
-        let w = windows[i];
-        if w.live {
-            n += 1;
-        }
-        i += 1;
-    }
-    n
+    count(gather(windows))
 }
 
 // The lowest slot whose window is dead, 16 where none is.
 pub fn lowest_free(windows: [Window; 16]) -> u32
     ensures { λ r. ⌜ r ≡ lowestFree windows ⌝ }
 {
-    let mut i: u32 = 0;
-    while i < 16 {
-        let w = windows[i as usize];
-        if w.live {
-            i += 1;
-        } else {
-            return i;
-        }
-    }
-    i
+    lowest_clear(gather(windows))
 }
 
 // Whether a window is live and has the key.
