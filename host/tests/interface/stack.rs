@@ -105,7 +105,7 @@ fn received(bytes: &[u8], kind: u64) -> &'static str {
 /// Gives the most bytes of stack that each call takes over some nights.
 fn depths(alone: bool) -> BTreeMap<String, usize> {
     let mut measured = Measured::new(alone);
-    for seed in 1..6 {
+    for seed in 1..=20 {
         let mut program = Program::new(measured, 4096);
         for line in night(4096, seed, 2000) {
             program.run_line(&line);
