@@ -15,7 +15,7 @@ request-of-requires c κs = search needs
 
 returns : tie.Need-returns
 unfolding readVerdict
-returns c = 
+returns c =
     let r = c .before .before .request-of .ensures in
     let empty = ap (λ (x : ReadRequest). eqb (x .size) 0) (sym r) ∙ eq-eqb _ _ (c .if3 .taken) in
     simp (c .before .before .before .before .if1 .taken, eq-eqb _ _ (c .before .before .before .if2 .taken), empty) (ap Read r)
@@ -28,7 +28,7 @@ judge-source-requires c κs = search needs
 
 returns-2 : tie.Need-returns-2
 unfolding readVerdict
-returns-2 c = 
+returns-2 c =
     let r = c .before .before .before .before .request-of .ensures in
     let some = ap (λ (x : ReadRequest). eqb (x .size) 0) (sym r) ∙ ne-eqb _ _ (c .before .before .if3 .left) in
     simp (c .before .before .before .before .before .before .if1 .taken, eq-eqb _ _ (c .before .before .before .before .before .if2 .taken), some)
