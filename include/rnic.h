@@ -48,9 +48,10 @@ enum rnic_call {
     RNIC_OPEN = 0,         /* store length, then start and end of each domain's part: s0 e0 s1 e1 s2 e2 s3 e3 */
     RNIC_OPEN_STREAM = 1,  /* stream, CRC: 0 off, anything else on */
     RNIC_CLOSE_STREAM = 2, /* stream */
-    RNIC_REGISTER = 3,     /* window, key, base, length, place, rights */
+    RNIC_REGISTER = 3,     /* window, key, base, length, place, rights: with the write right, 19 as for RNIC_POST */
     RNIC_DROP_WINDOW = 4,  /* window */
-    RNIC_POST = 5,         /* stream, start, length */
+    RNIC_POST = 5,         /* stream, start, length: 19 where it shares a byte with a live window of its domain that has
+                              the write right, or with a buffer that waits on a stream of that domain */
     RNIC_TAKE = 6,         /* stream */
     RNIC_LIVE_COUNT = 7,   /* domain */
     RNIC_LOWEST_FREE = 8,  /* domain */

@@ -106,6 +106,8 @@ int main(void) {
     call("live_count", RNIC_LIVE_COUNT, 0, 0, 0, 0, 0, 0, RNIC_COUNTED, 1, 0);
     call("lowest_free", RNIC_LOWEST_FREE, 0, 0, 0, 0, 0, 0, RNIC_COUNTED, 1, 0);
     call("post", RNIC_POST, 0, 512, 64, 0, 0, 0, RNIC_DONE, 0, 0);
+    call("register over a buffer", RNIC_REGISTER, 1, 7, 0, 1, 575, 1, RNIC_REFUSED, 19, 0);
+    call("post over a window", RNIC_POST, 0, 355, 1, 0, 0, 0, RNIC_REFUSED, 19, 0);
     call("take", RNIC_TAKE, 0, 0, 0, 0, 0, 0, RNIC_REFUSED, 11, 0);
     check_write();
     call("drop_window", RNIC_DROP_WINDOW, 0, 0, 0, 0, 0, 0, RNIC_DONE, 0, 0);

@@ -7,7 +7,7 @@ use oracle::state::Device as Second;
 
 use crate::measure::{measure, Times, Work};
 use crate::receiver::{Ours, Outcome, Receiver};
-use crate::scene::{Kind, Scene, BASE, KEY};
+use crate::scene::{Kind, Scene, BASE, FRAMES, KEY, ROOM};
 
 /// The stream that is used; a second one, of the same domain, is opened and closed, and a third stays closed.
 pub const STREAM: u64 = 0;
@@ -16,8 +16,9 @@ pub const CLOSED: u64 = 2;
 /// The window that stays, and another of the same domain.
 pub const LIVE: u64 = 0;
 pub const WINDOW: u64 = 1;
-/// Bytes of the windows that an act registers.
+/// Bytes of the windows that an act registers, and their place: behind the window that stays and the buffers.
 const LENGTH: u64 = 64;
+pub const PLACE: u64 = buffer(FRAMES);
 /// Where the STag and the MSN lie in the FPDU of an untagged segment.
 const STAG: std::ops::Range<usize> = 4..8;
 const MSN: std::ops::Range<usize> = 12..16;
@@ -233,9 +234,14 @@ fn window(number: u32, rights: u64) -> Window {
         key: key(number),
         base: BASE,
         length: LENGTH,
-        place: 0,
+        place: PLACE,
         rights,
     }
+}
+
+/// Gives the start of a buffer of a number, which has the same room as the window that stays; they stand behind it.
+pub const fn buffer(number: u64) -> u64 {
+    (number + 1) * ROOM
 }
 
 /// Both rights.

@@ -4,7 +4,7 @@ use oracle::generate::draft::{frame, Draft, Sink};
 use oracle::generate::prng::Prng;
 use oracle::rdmap;
 
-use crate::bed::{act, Act, Step, OTHER, RIGHTS, STREAM, WINDOW};
+use crate::bed::{act, buffer, Act, Step, OTHER, RIGHTS, STREAM, WINDOW};
 use crate::scene::{BASE, KEY, ROOM};
 use crate::table::{self, Aim};
 
@@ -37,7 +37,7 @@ pub fn write() {
 }
 
 /// A buffer for any Send.
-pub const POST: Step = Step::Post(STREAM, 0, ROOM);
+pub const POST: Step = Step::Post(STREAM, buffer(0), ROOM);
 /// The act's FPDU, received on the stream that is used.
 pub const RECEIVE: Step = Step::Receive(STREAM);
 

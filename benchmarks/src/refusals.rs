@@ -6,15 +6,15 @@ use oracle::mpa::{CRC_FIELD, LENGTH_FIELD};
 use oracle::rdmap;
 use oracle::state::{STREAMS, WINDOWS_PER_DOMAIN};
 
-use crate::bed::{act, Act, Step, CLOSED, LIVE, RIGHTS, STREAM, WINDOW};
+use crate::bed::{act, buffer, Act, Step, CLOSED, LIVE, PLACE, RIGHTS, STREAM, WINDOW};
 use crate::calls::{self, read_request, send, write_of, RECEIVE};
-use crate::scene::{BASE, KEY, ROOM};
+use crate::scene::{BASE, FRAMES, KEY, ROOM};
 use crate::table;
 
 /// Bytes of the payloads.
 const SIZE: usize = 64;
 /// A buffer for a payload.
-const POST: Step = Step::Post(STREAM, 0, SIZE as u64);
+const POST: Step = Step::Post(STREAM, buffer(0), SIZE as u64);
 /// The stream closed, and opened with the CRC off or on.
 pub const CLOSE: Step = Step::Close(STREAM);
 pub const REOPEN: Step = Step::OpenStream(STREAM, false);
@@ -166,6 +166,9 @@ const OUTSIDE: Step = Step::Post(STREAM, 0, u64::MAX);
 pub const REGISTER: Step = Step::Register(WINDOW, RIGHTS);
 pub const DROP: Step = Step::Drop(WINDOW);
 const AGAIN: Step = Step::Register(LIVE, RIGHTS);
+/// A buffer where the other window is registered, and one in the window that stays.
+const BELOW: Step = Step::Post(STREAM, PLACE, SIZE as u64);
+const OVER: Step = Step::Post(STREAM, 0, SIZE as u64);
 
 /// Gives an act of one step, which is refused: number, name, step and FPDU.
 macro_rules! local {
@@ -175,11 +178,13 @@ macro_rules! local {
 }
 
 /// Gives an act for each refusal of the host's calls.
-pub fn locals() -> [Act; 11] {
+pub fn locals() -> [Act; 13] {
     let none = Vec::new();
     let good = frame(&write_of(SIZE).ulpdu(), 0);
     let bad = frame(&Draft::new(true, rdmap::READ_REQUEST).ulpdu(), 0);
     let take = calls::take_none();
+    let eight = (0..FRAMES).map(|number| Step::Post(STREAM, buffer(number), SIZE as u64));
+    let eight: Vec<Step> = eight.collect();
     [
         local!(1, "open a stream out of range", NO_STREAM, none),
         local!(
@@ -195,10 +200,12 @@ pub fn locals() -> [Act; 11] {
         local!(7, "drop, window not live", DROP, none),
         local!(8, "register, key used last", REGISTER, none).after(&[REGISTER, DROP]),
         local!(9, "post outside the part", OUTSIDE, none),
-        local!(10, "post, eight wait", POST, none).after(&[POST; 8]),
+        local!(10, "post, eight wait", POST, none).after(&eight),
         Act {
             name: named(11, &take.name),
             ..take
         },
+        local!(19, "register over a buffer", REGISTER, none).after(&[BELOW]),
+        local!(19, "post over a window", OVER, none),
     ]
 }

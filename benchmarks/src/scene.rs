@@ -1,4 +1,5 @@
-//! What is received, and by what device: eight FPDUs, whose payloads all go to the front of the store.
+//! What is received, and by what device: eight FPDUs, whose payloads go to the front of the store. Windows and buffers
+//! stand one after the other, since no two that peers may write to share a byte.
 
 use host::Window;
 use oracle::ddp::{TAGGED_HEADER, UNTAGGED_HEADER};
@@ -6,6 +7,7 @@ use oracle::generate::draft::{frame, Draft};
 use oracle::generate::prng::Prng;
 use oracle::mpa::LENGTH_FIELD;
 use oracle::rdmap;
+use oracle::state::{STREAMS_PER_DOMAIN, WINDOWS_PER_DOMAIN};
 
 use crate::bed::RIGHTS;
 use crate::receiver::{Outcome, Receiver};
@@ -14,10 +16,18 @@ use crate::receiver::{Outcome, Receiver};
 pub const FRAMES: u64 = 8;
 /// Streams that the Sends go to in turn, all of one domain.
 pub const SEND_STREAMS: u64 = 4;
-/// Bytes of the first domain's windows and buffers, which all stand at the front of the store.
+/// Bytes of each of the first domain's windows, which stand at the front of the store; the buffers stand behind them.
 pub const ROOM: u64 = 2048;
-/// Bytes of each of the other domains, and of their windows and buffers.
+/// Bytes of each of the first domain's buffers where no Send uses them.
+const UNUSED: u64 = 32;
+/// The least bytes of a buffer that a Send uses; each starts at a multiple of so many.
+const LINE: u64 = 64;
+/// Bytes of each of the other domains, and of each of their windows and buffers.
 const OTHER: u64 = 256;
+const SMALL: u64 = 4;
+/// Windows and streams of a domain.
+const DOMAIN_WINDOWS: u64 = WINDOWS_PER_DOMAIN as u64;
+const DOMAIN_STREAMS: u64 = STREAMS_PER_DOMAIN as u64;
 /// The tagged offset at which each window starts.
 pub const BASE: u64 = 4096;
 /// The key of each window.
@@ -71,13 +81,16 @@ impl Scene {
         (0..FRAMES).map(segment).collect()
     }
 
-    /// Gives where in the FPDU of a number the payload lies, and its place in the store.
-    pub fn span(&self, number: usize) -> (std::ops::Range<usize>, usize) {
+    /// Gives where in the FPDU of a number the payload lies, and its place in the store when a stream receives it.
+    pub fn span(&self, stream: u64, number: u64) -> (std::ops::Range<usize>, usize) {
         let (start, place) = match self.kind {
             Kind::Write => (LENGTH_FIELD + TAGGED_HEADER, number),
-            Kind::Send => (LENGTH_FIELD + UNTAGGED_HEADER, 0),
+            Kind::Send => (
+                LENGTH_FIELD + UNTAGGED_HEADER,
+                self.buffer(stream, number).0,
+            ),
         };
-        (start..start + self.payload, place)
+        (start..start + self.payload, place as usize)
     }
 
     /// Gives the part of a domain: the first has all but what the others need.
@@ -90,10 +103,27 @@ impl Scene {
         }
     }
 
-    /// Gives the place and the length of each window and buffer of a domain.
-    fn extent(&self, domain: u64) -> (u64, u64) {
-        let room = if domain == 0 { ROOM } else { OTHER };
-        (self.part(domain).0, room)
+    /// Gives the place and the length of a window.
+    fn window(&self, number: u64) -> (u64, u64) {
+        let (domain, slot) = (number / DOMAIN_WINDOWS, number % DOMAIN_WINDOWS);
+        let length = if domain == 0 { ROOM } else { SMALL };
+        (self.part(domain).0 + slot * length, length)
+    }
+
+    /// Gives the start and the length of a stream's buffer of a number.
+    fn buffer(&self, stream: u64, number: u64) -> (u64, u64) {
+        let (domain, slot) = (stream / DOMAIN_STREAMS, stream % DOMAIN_STREAMS);
+        let length = match (domain, self.kind) {
+            (0, Kind::Write) => UNUSED,
+            (0, Kind::Send) => (self.payload as u64).next_multiple_of(LINE).max(LINE),
+            _ => SMALL,
+        };
+        let windows = match domain {
+            0 => self.windows.min(DOMAIN_WINDOWS) * ROOM,
+            _ => DOMAIN_WINDOWS * SMALL,
+        };
+        let start = self.part(domain).0 + windows;
+        (start + (slot * FRAMES + number) * length, length)
     }
 
     /// Sets up a device with the windows live, and the streams open with all the buffers that they can have.
@@ -101,7 +131,7 @@ impl Scene {
         let mut device = R::new();
         done(self.open(&mut device));
         for number in 0..self.windows {
-            let (place, length) = self.extent(number / 16);
+            let (place, length) = self.window(number);
             let window = Window {
                 key: KEY,
                 base: BASE,
@@ -125,9 +155,9 @@ impl Scene {
 
     /// Opens a stream and posts its buffers.
     fn open_stream<R: Receiver>(&self, device: &mut R, stream: u64) {
-        let (start, length) = self.extent(stream / 4);
         done(device.open_stream(stream, self.crc));
-        for _ in 0..FRAMES {
+        for number in 0..FRAMES {
+            let (start, length) = self.buffer(stream, number);
             done(device.post(stream, start, length));
         }
     }

@@ -84,9 +84,9 @@ fn receive_all<R: Receiver>(device: &mut R, store: &mut [u8], stream: u64, frame
 fn copying(scene: Scene, frames: &[Vec<u8>]) -> Work<'_> {
     let mut store = vec![0; scene.store as usize];
     repeated(move || {
-        for _ in 0..streams(scene) {
-            for (number, bytes) in frames.iter().enumerate() {
-                let (payload, place) = black_box(scene.span(number));
+        for stream in 0..streams(scene) {
+            for (number, bytes) in (0..).zip(frames) {
+                let (payload, place) = black_box(scene.span(stream, number));
                 let bytes = &black_box(bytes)[payload];
                 store[place..place + bytes.len()].copy_from_slice(bytes);
                 black_box(&mut store);

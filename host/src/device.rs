@@ -72,7 +72,8 @@ impl Device {
         words::closed(&self.call(call::CLOSE_STREAM, &[stream]))
     }
 
-    /// Registers a window under its number.
+    /// Registers a window under its number. With the write right it must share no byte with another live window of its
+    /// domain that has it, nor with a buffer that waits on a stream of that domain: refusal 19.
     #[inline]
     pub fn register(&mut self, number: u64, window: Window) -> Result<(), Error> {
         let Window {
@@ -92,7 +93,8 @@ impl Device {
         words::done(&self.call(call::DROP_WINDOW, &[number]))
     }
 
-    /// Posts a receive buffer at the end of a stream's queue.
+    /// Posts a receive buffer at the end of a stream's queue. It must share no byte with a live window of its domain that
+    /// has the write right, nor with a buffer that waits on a stream of that domain: refusal 19.
     #[inline]
     pub fn post(&mut self, stream: u64, start: u64, length: u64) -> Result<(), Error> {
         words::done(&self.call(call::POST, &[stream, start, length]))

@@ -3,7 +3,7 @@
 use crate::rdmap::ReadRequest;
 use crate::refusal::Refusal;
 use crate::state::{stream_domain, window_domain, Buffer, Condition, Device, Part, Stream, Window};
-use crate::state::{DOMAINS, MAX_STORE, STREAMS, WINDOWS, WINDOWS_PER_DOMAIN};
+use crate::state::{DOMAINS, MAX_STORE, RIGHT_WRITE, STREAMS, WINDOWS, WINDOWS_PER_DOMAIN};
 
 /// Takes a number that is below `limit` as an index.
 fn index(number: u64, limit: usize) -> Result<usize, Refusal> {
@@ -66,7 +66,7 @@ impl Device {
         Ok((closed.buffers.len(), closed.reads.len()))
     }
 
-    /// Registers a window.
+    /// Registers a window; with the write right it shares no byte with what the domain's peers may write to.
     pub fn register(
         &mut self,
         window: u64,
@@ -80,24 +80,28 @@ impl Device {
         if !(1..=255).contains(&key) || !(1..=3).contains(&rights) {
             return Err(Refusal::OutOfRange);
         }
-        let part = self.parts[window_domain(number)];
-        let entry = &mut self.windows[number];
+        let domain = window_domain(number);
+        let entry = self.windows[number];
         if entry.live {
             return Err(Refusal::WindowLive);
         }
         if u64::from(entry.key) == key {
             return Err(Refusal::KeyReused);
         }
-        if !part.holds(place, length) || base.checked_add(length).is_none() {
+        if !self.parts[domain].holds(place, length) || base.checked_add(length).is_none() {
             return Err(Refusal::Extent);
         }
-        *entry = Window {
+        let rights = rights as u8;
+        if rights & RIGHT_WRITE != 0 && self.is_shared(domain, place, length) {
+            return Err(Refusal::Shared);
+        }
+        self.windows[number] = Window {
             live: true,
             key: key as u8,
             base,
             length,
             place,
-            rights: rights as u8,
+            rights,
         };
         Ok(())
     }
@@ -112,17 +116,21 @@ impl Device {
         Ok(())
     }
 
-    /// Posts a receive buffer at the end of a stream's queue.
+    /// Posts a receive buffer at the end of a stream's queue; it shares no byte with what the domain's peers may write to.
     pub fn post(&mut self, stream: u64, start: u64, length: u64) -> Result<(), Refusal> {
         let number = self.usable(stream)?;
-        if !self.parts[stream_domain(number)].holds(start, length) {
+        let domain = stream_domain(number);
+        if !self.parts[domain].holds(start, length) {
             return Err(Refusal::Extent);
         }
-        let buffers = &mut self.streams[number].buffers;
-        if buffers.is_full() {
+        if self.streams[number].buffers.is_full() {
             return Err(Refusal::BuffersFull);
         }
-        buffers.push(Buffer { start, length });
+        if self.is_shared(domain, start, length) {
+            return Err(Refusal::Shared);
+        }
+        let buffer = Buffer { start, length };
+        self.streams[number].buffers.push(buffer);
         Ok(())
     }
 

@@ -32,6 +32,11 @@ impl<T: Copy> Fifo<T> {
         (self.count > 0).then(|| self.entries[self.head])
     }
 
+    /// Gives the waiting entries, the oldest first.
+    pub fn iter(&self) -> impl Iterator<Item = T> + '_ {
+        (0..self.count).map(|at| self.entries[(self.head + at) % CAPACITY])
+    }
+
     /// Adds an entry at the end; the caller has asked for room.
     pub fn push(&mut self, entry: T) {
         assert!(!self.is_full());

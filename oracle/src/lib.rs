@@ -1,8 +1,8 @@
 //! An RDMA receiver (MPA, DDP, RDMAP) written as a plain state machine, driven by replay scripts.
 //!
 //! The wire forms (`crc`, `mpa`, `startup`, `ddp`, `rdmap`) know nothing of the state. Read `state` first, then `device`
-//! for the calls and `receive`, whose rules stand in `judge` and `target`. `script` runs the lines that `command` takes
-//! apart; `generate` writes random ones.
+//! for the calls, with `sharing`, and `receive`, whose rules stand in `judge` and `target`. `script` runs the lines that
+//! `command` takes apart; `generate` writes random ones.
 
 pub mod bigendian;
 pub mod command;
@@ -18,6 +18,7 @@ pub mod rdmap;
 pub mod receive;
 pub mod refusal;
 pub mod script;
+mod sharing;
 pub mod startup;
 pub mod state;
 pub mod tally;

@@ -21,6 +21,7 @@ pub enum Refusal {
     NoRoom = 13,
     BadStartup = 14,
     Markers = 15,
+    Shared = 19,
 }
 
 impl fmt::Display for Refusal {
@@ -89,7 +90,7 @@ pub const SOURCE_BOUNDS: Fault = fault(38, 0, 1, 0x01);
 pub const NO_READ_RIGHT: Fault = fault(38, 0, 1, 0x02);
 
 /// Every local refusal, in the order of the numbers.
-pub const REFUSALS: [Refusal; 15] = [
+pub const REFUSALS: [Refusal; 16] = [
     Refusal::OutOfRange,
     Refusal::LentLength,
     Refusal::NotOpen,
@@ -105,6 +106,7 @@ pub const REFUSALS: [Refusal; 15] = [
     Refusal::NoRoom,
     Refusal::BadStartup,
     Refusal::Markers,
+    Refusal::Shared,
 ];
 
 /// Every fault, in the order of the numbers.

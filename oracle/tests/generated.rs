@@ -65,6 +65,10 @@ fn nights_reach_every_answer() {
         assert!(tally.count("receive", kind) > 100, "{kind}");
     }
     assert!(tally.count("receive", "taken terminate") > 100);
+    for command in ["register", "post"] {
+        assert!(tally.count(command, "done") > 1000, "{command}");
+        assert!(tally.count(command, "refused 19") > 50, "{command}");
+    }
     let writers: Vec<String> = (12..=15)
         .map(|number| format!("refused {number}"))
         .collect();

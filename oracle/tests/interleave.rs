@@ -95,6 +95,26 @@ fn byte_past_the_part(interpreter: &mut Interpreter, words: &[&str], answer: Str
     answer
 }
 
+/// Looks for a spot's other writers among all domains' buffers, their places counted from the start of the part.
+fn spots_of_all_domains(interpreter: &mut Interpreter, words: &[&str], answer: String) -> String {
+    if words[0] != "post" || answer != "done" {
+        return answer;
+    }
+    let device = &interpreter.device;
+    let owner = |stream: usize| stream / STREAMS_PER_DOMAIN;
+    let offset = |stream: usize, start: u64| start - device.parts[owner(stream)].start;
+    let (stream, start) = (words[1].parse().unwrap(), words[2].parse().unwrap());
+    let same = |other: usize| {
+        let mut starts = device.streams[other].buffers.iter().map(|b| b.start);
+        starts.any(|place| offset(other, place) == offset(stream, start))
+    };
+    let others = (0..STREAMS).filter(|&other| owner(other) != owner(stream));
+    match others.into_iter().any(same) {
+        true => String::from("refused 19"),
+        false => answer,
+    }
+}
+
 /// Ends the next domain's stream too where a stream ends.
 fn ends_another_stream(interpreter: &mut Interpreter, words: &[&str], answer: String) -> String {
     if words[0] == "receive" && answer.contains('/') {
@@ -136,6 +156,7 @@ fn flaws_are_found() {
         ("common free list", common_free_list),
         ("byte past the part", byte_past_the_part),
         ("ends another stream", ends_another_stream),
+        ("spots of all domains", spots_of_all_domains),
     ] {
         let found = found(flaw);
         println!("{name}: {found} of 12");

@@ -2,6 +2,10 @@
 
 use oracle::script::{run, Interpreter};
 
+/// The STag, queue and MSN of a stream's first Send, and what stands for the pad and the CRC where it is off.
+const SEND: &str = "000000000000000000000001";
+const NO_CRC: &str = "00000000000000";
+
 /// Runs a script on a new program and gives what it writes.
 fn replay(script: &[u8]) -> String {
     let mut output = Vec::new();
@@ -109,7 +113,7 @@ fn windows_and_buffers() {
         ("drop 0", "done"),
         ("drop 0", "refused 7"),
         ("register 0 1 0 0 0 1", "refused 8"),
-        ("register 0 2 0 16 0 1", "done"),
+        ("register 0 2 0 15 0 1", "done"),
         ("live 0", "live 1"),
         ("live 4", "refused 1"),
         ("post 0 0 1", "refused 3"),
@@ -126,6 +130,76 @@ fn windows_and_buffers() {
         ("stream 0 on", "refused 4"),
         ("close 0", "closed 1 0"),
     ]);
+}
+
+#[test]
+fn two_writers_on_one_spot() {
+    let send = |last: u8, mo: u8| format!("receive 0 0013{last:02x}43{}{mo:08x}ff{}", SEND, NO_CRC);
+    let (goes_on, ends) = (send(0x01, 0), send(0x41, 1));
+    check(&[
+        ("open 64 0 16 16 32 32 48 48 64", "opened"),
+        ("stream 0 off", "done"),
+        ("stream 3 off", "done"),
+        ("register 0 1 0 4 4 1", "done"),
+        // A byte at either end, all of it, and next to it.
+        ("register 1 1 0 2 3 1", "refused 19"),
+        ("register 1 1 0 2 7 3", "refused 19"),
+        ("register 1 1 0 16 0 3", "refused 19"),
+        ("register 1 1 0 1 5 1", "refused 19"),
+        ("register 1 1 0 4 0 1", "done"),
+        ("post 0 7 1", "refused 19"),
+        ("post 0 8 2", "done"),
+        // A window with the read right alone; and one with both over it.
+        ("register 2 1 0 16 0 2", "done"),
+        ("register 3 1 0 2 12 3", "done"),
+        // Buffers, on any stream of the domain, and the one in fill.
+        ("post 0 9 1", "refused 19"),
+        ("post 3 7 2", "refused 19"),
+        ("register 4 1 0 1 9 1", "refused 19"),
+        (&goes_on, "taken 28"),
+        ("post 3 8 1", "refused 19"),
+        (&ends, "taken 28 send 8 2 3"),
+        ("post 3 8 1", "done"),
+        // An ended stream keeps its buffers until close.
+        ("receive 3 0801", "refused 20 1/0/00"),
+        ("post 0 8 1", "refused 19"),
+        ("close 3", "closed 1 0"),
+        ("post 0 8 1", "done"),
+        // A dead window has no place.
+        ("drop 0", "done"),
+        ("post 0 4 4", "done"),
+        // The other refusals come first.
+        ("register 4 1 0 1 4 4", "refused 1"),
+        ("register 1 2 0 1 4 1", "refused 6"),
+        ("register 0 1 0 1 4 1", "refused 8"),
+        ("register 4 1 18446744073709551615 1 4 1", "refused 9"),
+        ("post 3 4 1", "refused 3"),
+        ("post 0 4 13", "refused 9"),
+        ("live 0", "live 3"),
+        ("free 0", "free 0"),
+        // Another domain's places are its own.
+        ("stream 4 off", "done"),
+        ("register 16 1 0 4 20 1", "done"),
+        ("post 4 24 2", "done"),
+        ("close 0", "closed 2 0"),
+    ]);
+}
+
+#[test]
+fn a_ninth_buffer_is_refused_for_the_eight() {
+    let mut lines = vec![
+        (String::from("open 64 0 64 64 64 64 64 64 64"), "opened"),
+        (String::from("stream 0 off"), "done"),
+    ];
+    lines.extend((0..8).map(|place| (format!("post 0 {place} 1"), "done")));
+    lines.push((String::from("post 0 0 1"), "refused 10"));
+    lines.push((String::from("stream 1 off"), "done"));
+    lines.push((String::from("post 1 0 1"), "refused 19"));
+    let lines: Vec<(&str, &str)> = lines
+        .iter()
+        .map(|(line, answer)| (&line[..], *answer))
+        .collect();
+    check(&lines);
 }
 
 #[test]

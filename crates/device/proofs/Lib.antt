@@ -1,4 +1,5 @@
 pub mod Slots
 pub mod Windows
+pub mod Shared
 pub mod Applied
 pub mod Received

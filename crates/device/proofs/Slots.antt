@@ -11,12 +11,10 @@ use Rattle.memory.specs.declared.part.Outcome.{Outcome}
 use Rattle.memory.specs.declared.part.Outcome.the-variants.{Done, Refused}
 use Rattle.rdmap.specs.Phase.{isClosed, readiness}
 use Rattle.rdmap.specs.Read.{firstRead, poppedReads}
-use Rattle.rdmap.specs.Sends.{postedSends}
-use Rattle.rdmap.specs.Stream.{closedStream, openedStream, withSends, withReads, opened, closed, postedOn, postedWith, postedWhen, takenFrom, takenWhen}
+use Rattle.rdmap.specs.Stream.{closedStream, openedStream, withReads, opened, closed, postedOn, postedWhen, takenFrom, takenWhen}
 use Rattle.rdmap.specs.declared.phase.Readiness.{Readiness}
 use Rattle.rdmap.specs.declared.phase.Readiness.the-variants.{Ready, NotReady}
 use Rattle.rdmap.specs.declared.read.Reads.{Reads}
-use Rattle.rdmap.specs.declared.sends.SendsPosted.{SendsPosted}
 use Rattle.rdmap.specs.declared.stream.CloseAnswer.{CloseAnswer}
 use Rattle.rdmap.specs.declared.stream.CloseAnswer.the-variants.{Closed as CountedOut, Refused as NotClosed}
 use Rattle.rdmap.specs.declared.stream.Stream.{Stream}
@@ -29,9 +27,9 @@ use Rattle.domain.specs.Domain.{noStream}
 use Rattle.rnic.specs.Rnic.{noDomain, domainAt, withDomain}
 use Rattle.rnic.specs.declared.Rnic.{Rnic}
 use Rattle.block.specs.Stream.{loadedPhase, loadedFraming, loadedTerminates, loadedSends, loadedReads}
-use Rattle.block.specs.Device.{loadedPart, rnicAt}
+use Rattle.block.specs.Device.{rnicAt}
 use Rattle.block.specs.Exchange.{streamOf, withStreamOf}
-use Rattle.block.proofs.Stored.{part-at, groups-at}
+use Rattle.block.proofs.Stored.{groups-at}
 
 -- a domain's entry exchanged for itself, and a stream
 pub domain-kept : (b : Rnic) (d : ℕ) → withDomain b d (domainAt b d) ≡ b
@@ -108,24 +106,9 @@ module _ (w : List ℕ) (d j : ℕ) (hd : d < 4) (hj : j < 4) where
 
   -- ---- a buffer posted
 
-  module _ (start len : ℕ) where
-    posted-when : (r : Readiness) → readiness (loadedPhase w d j) ≡ r → postedOn s (domainAt b d .part) start len ≡ postedWhen s (domainAt b d .part) start len r
-    unfolding postedOn
-    posted-when r e = ap (postedWhen s (domainAt b d .part) start len) (ap readiness phase-of ∙ e)
-
-    abbrev PostedAs : Outcome → List ℕ → Type 0
-    PostedAs o v = (o ≡ postedOn s (domainAt b d .part) start len .outcome) × (rnicAt v ≡ withStreamOf b d j (postedOn s (domainAt b d .part) start len .stream))
-
-    pub post-refused : (k : ℕ) → readiness (loadedPhase w d j) ≡ NotReady k → PostedAs (Refused k) w
-    post-refused k e =
-        let t = posted-when (NotReady k) e in
-        (sym (ap (λ (x : StreamDone). x .outcome) t), sym (ap (λ (x : StreamDone). withStreamOf b d j (x .stream)) t ∙ stream-kept b d j))
-
-    pub post-stored : (v : List ℕ) (p : SendsPosted) → readiness (loadedPhase w d j) ≡ Ready → p ≡ postedSends (loadedSends w d j) (loadedPart w d) start len → rnicAt v ≡ withStreamOf b d j (withSends s (p .sends)) → PostedAs (p .outcome) v
-    post-stored v p e is stored =
-        let q : p ≡ postedSends (s .sends) (domainAt b d .part) start len = is ∙ sym (λ i. postedSends (sends-of i) (part-at w d hd i) start len) in
-        let t : postedWith s p ≡ postedOn s (domainAt b d .part) start len = ap (postedWith s) q ∙ sym (posted-when Ready e) in
-        (ap (λ (x : StreamDone). x .outcome) t, stored ∙ ap (λ (x : StreamDone). withStreamOf b d j (x .stream)) t)
+  pub posted-when : (start len : ℕ) (r : Readiness) → readiness (loadedPhase w d j) ≡ r → postedOn s (domainAt b d .part) start len ≡ postedWhen s (domainAt b d .part) start len r
+  unfolding postedOn
+  posted-when start len r e = ap (postedWhen s (domainAt b d .part) start len) (ap readiness phase-of ∙ e)
 
   -- ---- a read taken
 

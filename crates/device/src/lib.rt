@@ -8,5 +8,6 @@ mod apply;
 mod judge;
 pub mod opening;
 pub mod receive;
+mod sharing;
 pub mod stream;
 pub mod window;

@@ -1,10 +1,12 @@
 // Calls on a stream: opened, closed, a buffer posted, a read taken.
 ghost use mathlib.Core.Path.{_≡_};
 ghost use Prim.Native.Nat.{_<_};
-ghost use Rattle.rdmap.specs.Stream.{opened, closed, postedOn, takenFrom};
-ghost use Rattle.rnic.specs.Rnic.{rnicOpened, rnicClosed, rnicPosted, rnicTaken, domainAt};
+ghost use Rattle.rdmap.specs.Stream.{opened, closed, takenFrom};
+ghost use Rattle.domain.specs.Domain.{domainPosted};
+ghost use Rattle.rnic.specs.Rnic.{rnicOpened, rnicClosed, rnicPosted, rnicTaken, domainAt, withDomain};
 ghost use Rattle.block.specs.Device.{rnicAt};
 ghost use Rattle.block.specs.Exchange.{streamOf, withStreamOf};
+use crate::sharing::domain_shares;
 use block::device::load_part;
 use block::phase::load_phase;
 use block::reads::load_reads;
@@ -76,10 +78,10 @@ pub fn close_stream(words: &mut [u64; 933], stream: u64) -> CloseAnswer
     CloseAnswer::Refused(1)
 }
 
-// Posts a buffer on the stream of a domain's slot.
+// Posts a buffer on the stream of a domain's slot. Whether it shares a byte with another is asked last.
 fn post_slot(words: &mut [u64; 933], domain: usize, slot: usize, start: u64, len: u64) -> Outcome
     requires { ⌜ (domain < 4) × (slot < 4) ⌝ }
-    ensures { λ r. ⌜ (r ≡ postedOn (streamOf (rnicAt (now (words .entry))) domain slot) (domainAt (rnicAt (now (words .entry))) domain .part) start len .outcome) × (rnicAt (now (words .exit)) ≡ withStreamOf (rnicAt (now (words .entry))) domain slot (postedOn (streamOf (rnicAt (now (words .entry))) domain slot) (domainAt (rnicAt (now (words .entry))) domain .part) start len .stream)) ⌝ }
+    ensures { λ r. ⌜ (r ≡ domainPosted (domainAt (rnicAt (now (words .entry))) domain) slot start len .outcome) × (rnicAt (now (words .exit)) ≡ withDomain (rnicAt (now (words .entry))) domain (domainPosted (domainAt (rnicAt (now (words .entry))) domain) slot start len .domain)) ⌝ }
 {
     let phase = load_phase(words, domain, slot);
     match phase.ready() {
@@ -92,8 +94,17 @@ fn post_slot(words: &mut [u64; 933], domain: usize, slot: usize, start: u64, len
     let sends = load_sends(words, domain, slot);
     let posted = sends.post(part, start, len);
     let outcome = posted.outcome;
+    match outcome {
+        Outcome::Done => {}
+        Outcome::Refused(number) => {
+            return Outcome::Refused(number);
+        }
+    }
+    if domain_shares(words, domain, start, len) {
+        return Outcome::Refused(19);
+    }
     store_sends(words, domain, slot, posted.sends);
-    outcome
+    Outcome::Done
 }
 
 // Posts a buffer on a stream.

@@ -1,11 +1,13 @@
 // Calls on a window: registered and dropped; and the questions about a domain's windows.
 ghost use mathlib.Core.Path.{_≡_};
 ghost use Prim.Native.Nat.{_<_};
-ghost use Rattle.memory.specs.Window.{registeredIn, droppedIn, liveCount, lowestFree};
+ghost use Rattle.memory.specs.Window.{droppedIn, liveCount, lowestFree};
 ghost use Rattle.memory.specs.Marks.{liveMarks};
-ghost use Rattle.rnic.specs.Rnic.{domainAt, rnicRegistered, rnicDropped, rnicLive, rnicFree};
+ghost use Rattle.domain.specs.Domain.{domainRegistered};
+ghost use Rattle.rnic.specs.Rnic.{domainAt, withDomain, rnicRegistered, rnicDropped, rnicLive, rnicFree};
 ghost use Rattle.block.specs.Device.{rnicAt};
 ghost use Rattle.device.specs.Lifted.{windowOf, withWindowOf};
+use crate::sharing::write_shares;
 use block::device::load_part;
 use block::window::load_live;
 use block::window::load_window;
@@ -18,7 +20,7 @@ use memory::window::drop_in;
 use memory::window::register_in;
 use rnic::Count;
 
-// Registers the window of a domain's slot.
+// Registers the window of a domain's slot. Whether it shares a byte with another writer is asked last.
 fn register_slot(
     words: &mut [u64; 933],
     domain: usize,
@@ -30,15 +32,23 @@ fn register_slot(
     rights: u64,
 ) -> Outcome
     requires { ⌜ (domain < 4) × (slot < 16) ⌝ }
-    ensures { λ r. ⌜ (r ≡ registeredIn (windowOf (rnicAt (now (words .entry))) domain slot) (domainAt (rnicAt (now (words .entry))) domain .part) key base len place rights .outcome) × (rnicAt (now (words .exit)) ≡ withWindowOf (rnicAt (now (words .entry))) domain slot (registeredIn (windowOf (rnicAt (now (words .entry))) domain slot) (domainAt (rnicAt (now (words .entry))) domain .part) key base len place rights .window)) ⌝ }
+    ensures { λ r. ⌜ (r ≡ domainRegistered (domainAt (rnicAt (now (words .entry))) domain) slot key base len place rights .outcome) × (rnicAt (now (words .exit)) ≡ withDomain (rnicAt (now (words .entry))) domain (domainRegistered (domainAt (rnicAt (now (words .entry))) domain) slot key base len place rights .domain)) ⌝ }
 {
     let w = load_window(words, domain, slot);
     let part = load_part(words, domain);
     let done = register_in(w, part, key, base, len, place, rights);
     let outcome = done.outcome;
-    let after = done.window;
-    store_window(words, domain, slot, after);
-    outcome
+    match outcome {
+        Outcome::Done => {}
+        Outcome::Refused(number) => {
+            return Outcome::Refused(number);
+        }
+    }
+    if write_shares(words, domain, rights, place, len) {
+        return Outcome::Refused(19);
+    }
+    store_window(words, domain, slot, done.window);
+    Outcome::Done
 }
 
 // Registers a window.

@@ -4,7 +4,7 @@ use mathlib.Core.Bool.{Bool}
 use mathlib.Core.List.{List, []}
 use lib.ListN.{getD, set, replicate}
 use lib.Dec.{leb}
-use Rattle.wire.specs.Wire.{pick}
+use Rattle.wire.specs.Wire.{pick, both}
 use Rattle.memory.specs.Window.{noWindow, registered, dropped}
 use Rattle.memory.specs.declared.part.Outcome.the-variants.{Refused as NotDone}
 use Rattle.memory.specs.declared.window.Window.{Window}
@@ -12,6 +12,7 @@ use Rattle.rdmap.specs.Phase.{phaseOf}
 use Rattle.rdmap.specs.Framing.{noFraming}
 use Rattle.rdmap.specs.Stream.{closedStream, opened, closed, postedOn, takenFrom}
 use Rattle.domain.specs.Parts.{partsReceived, partsReceivedBytes, lifted}
+use Rattle.domain.specs.Sharing.{writes, domainShares, lastly}
 use Rattle.domain.specs.declared.Domain.{Domain}
 use Rattle.domain.specs.declared.DomainDone.{DomainDone}
 use Rattle.domain.specs.declared.DomainClosed.{DomainClosed}
@@ -60,11 +61,12 @@ domainClosed d slot =
     (record { answer = closed (streamAt d slot) .answer; domain = withStream d slot (closed (streamAt d slot) .stream) })
     (record { answer = NotClosed 1; domain = d })
 
--- "post adds a buffer at the end"
+-- "post adds a buffer at the end"; 19 where it shares a byte with a live write window or a waiting buffer of the domain
 unfoldable pub domainPosted : Domain → ℕ → ℕ → ℕ → DomainDone
 domainPosted d slot start len =
     pick (leb slot 3)
-    (record { outcome = postedOn (streamAt d slot) (d .part) start len .outcome; domain = withStream d slot (postedOn (streamAt d slot) (d .part) start len .stream) })
+    (lastly (domainShares d start len) d
+    (record { outcome = postedOn (streamAt d slot) (d .part) start len .outcome; domain = withStream d slot (postedOn (streamAt d slot) (d .part) start len .stream) }))
     (record { outcome = NotDone 1; domain = d })
 
 -- "taking a read removes the oldest"
@@ -76,11 +78,14 @@ domainTaken d slot =
 
 -- ---- windows
 
+-- 19 where a window with the write right shares a byte with another that is live, or with a waiting buffer, of the domain
 unfoldable pub domainRegistered : Domain → ℕ → ℕ → ℕ → ℕ → ℕ → ℕ → DomainDone
-domainRegistered d slot key base len place rights = record {
-  outcome = registered (d .windows) (d .part) slot key base len place rights .outcome;
-  domain = withWindows d (registered (d .windows) (d .part) slot key base len place rights .windows);
-}
+domainRegistered d slot key base len place rights =
+    lastly (both (writes rights) (domainShares d place len)) d
+    (record {
+      outcome = registered (d .windows) (d .part) slot key base len place rights .outcome;
+      domain = withWindows d (registered (d .windows) (d .part) slot key base len place rights .windows);
+    })
 
 unfoldable pub domainDropped : Domain → ℕ → DomainDone
 domainDropped d slot = record {

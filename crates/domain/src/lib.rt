@@ -7,6 +7,7 @@
 // puts the payload in its place. The definitions, in specs/Domain.antt, are the paper's "A's book".
 ghost use mathlib.Core.Path.{_≡_};
 ghost use Prim.Native.Nat.{_<_};
+ghost use Rattle.domain.specs.Sharing.{lastly};
 ghost use Rattle.domain.specs.Domain.{
   withStream,
   newDomain,
@@ -21,6 +22,8 @@ ghost use Rattle.domain.specs.Domain.{
 };
 use crate::parts::kill;
 use crate::parts::receive_parts;
+use crate::sharing::domain_shares;
+use crate::sharing::has_write;
 use ddp::refusal::Refusal;
 use memory::part::Outcome;
 use memory::part::Part;
@@ -32,6 +35,7 @@ use rdmap::stream::closed_stream;
 
 pub mod parts;
 pub mod placing;
+pub mod sharing;
 
 // What a domain holds.
 #[repr(C)]
@@ -103,6 +107,25 @@ fn with_stream(d: Domain, slot: usize, stream: Stream) -> Domain
     next
 }
 
+// What a call answers that is refused with 19, asked last, where bytes are shared; d is the domain before it.
+fn unless_shared(shared: bool, d: Domain, done: DomainDone) -> DomainDone
+    ensures { λ r. ⌜ r ≡ lastly shared d done ⌝ }
+{
+    let outcome = done.outcome;
+    match outcome {
+        Outcome::Done => {
+            if shared {
+                return DomainDone {
+                    outcome: Outcome::Refused(19),
+                    domain: d,
+                };
+            }
+            done
+        }
+        Outcome::Refused(_) => done,
+    }
+}
+
 // Opens a stream with the CRC on or off.
 pub fn open_stream(d: Domain, slot: u64, crc: bool) -> DomainDone
     ensures { λ r. ⌜ r ≡ domainOpened d slot crc ⌝ }
@@ -156,10 +179,11 @@ pub fn post(d: Domain, slot: u64, start: u64, len: u64) -> DomainDone
         let done = s.post(part, start, len);
         let outcome = done.outcome;
         let stream = done.stream;
-        return DomainDone {
+        let next = DomainDone {
             outcome,
             domain: with_stream(d, at, stream),
         };
+        return unless_shared(domain_shares(d, start, len), d, next);
     }
     DomainDone {
         outcome: Outcome::Refused(1),
@@ -207,10 +231,14 @@ pub fn register(
     let after = done.windows;
     let mut next = d;
     next.windows = after;
-    DomainDone {
+    let next = DomainDone {
         outcome,
         domain: next,
+    };
+    if has_write(rights) {
+        return unless_shared(domain_shares(d, place, len), d, next);
     }
+    next
 }
 
 // Drops a window.

@@ -1,5 +1,5 @@
--- The twelve worked cases that the paper marks to be proved, a slice of two FPDUs, and empty reads, as one table: what each gives, what it must
--- give, and one test that antt computes over the whole table.
+-- The twelve worked cases that the paper marks to be proved, a slice of two FPDUs, empty reads, and refusal 19, as one table: what each gives,
+-- what it must give, and one test that antt computes over the whole table.
 -- Assumes nothing.
 use mathlib.Core.Path.{_≡_, refl}
 use mathlib.Core.Bool.{Bool, true, false}
@@ -15,19 +15,22 @@ use Rattle.mpa.specs.Startup.{startupOf}
 use Rattle.memory.specs.Part.{inPart}
 use Rattle.memory.specs.Window.{inRange, windowFits, registeredIn, registered, droppedIn, dropped, named, foundIn, wraps, spanned}
 use Rattle.memory.specs.Buffer.{posted, poppedOf}
+use Rattle.memory.specs.declared.part.Outcome.{Outcome}
+use Rattle.memory.specs.declared.part.Outcome.the-variants.{Done, Refused as NotDone}
 use Rattle.ddp.specs.Header.{taggedFields, untaggedFields, taggedRead, untaggedRead, headerRead}
 use Rattle.ddp.specs.Segment.{segmentRead}
 use Rattle.ddp.specs.Tagged.{taggedOf}
 use Rattle.ddp.specs.Untagged.{untaggedIn, untaggedOf, nextMsn}
 use Rattle.ddp.specs.Place.{fits, placed}
 use Rattle.rdmap.specs.Message.{sendVerdict, readVerdict, terminateVerdict, messageVerdict, queueOf}
-use Rattle.rdmap.specs.Stream.{opened, postedOn, sentOn, openedStream}
-use Rattle.domain.specs.Domain.{domainOpened, domainPosted, domainRegistered, domainDropped, domainReceived, domainReceivedBytes}
+use Rattle.rdmap.specs.Stream.{opened, closed, postedOn, sentOn, openedStream}
+use Rattle.domain.specs.Domain.{domainOpened, domainClosed, domainPosted, domainRegistered, domainDropped, domainReceived, domainReceivedBytes}
 use Rattle.domain.specs.Parts.{partsApplied, placedFrom, appliedBytes, partsReceived, partsReceivedBytes}
+use Rattle.domain.specs.Sharing.{shares, windowShares, windowsShare, buffersShare, streamsShare, domainShares, lastly}
 use Rattle.domain.specs.declared.Answer.{Answer}
 use Rattle.domain.specs.declared.Answer.the-variants.{Wait, Taken, Ended, Refused}
 use Rattle.domain.specs.declared.Event.the-variants.{NoEvent, Sent, SentInvalidating, Terminated}
-use Rattle.rnic.specs.Rnic.{openedRnic, rnicOpened, rnicPosted, rnicRegistered, rnicDropped, receivedOwned, receivedOwnedStore, rnicReceived, rnicReceivedStore}
+use Rattle.rnic.specs.Rnic.{openedRnic, rnicOpened, rnicClosed, rnicPosted, rnicRegistered, rnicDropped, receivedOwned, receivedOwnedStore, rnicReceived, rnicReceivedStore}
 use Rattle.rnic.specs.declared.Rnic.{Rnic}
 
 -- an answer in numbers: Wait n; Taken with its total and event; a peer refusal's number, layer, type and code; a local refusal's number
@@ -78,6 +81,26 @@ request stag size =
 abbrev answer : Rnic → ℕ → List ℕ → List ℕ
 answer b stream input = code (rnicReceived b 4096 stream input .answer)
 
+-- what register and post answer: 0 done, or the refusal's number
+abbrev told : Outcome → List ℕ
+told Done = 0 ∷ []
+told (NotDone n) = n ∷ []
+
+abbrev registers : Rnic → ℕ → ℕ → ℕ → ℕ → List ℕ
+registers b w len place rights = told (rnicRegistered b w 5 0 len place rights .outcome)
+
+abbrev posts : Rnic → ℕ → ℕ → ℕ → List ℕ
+posts b stream start len = told (rnicPosted b stream start len .outcome)
+
+-- a buffer of 5 bytes at 1,100 on stream 4; stream 5, of the same domain, is open too
+abbrev waits : Rnic
+waits = rnicOpened (rnicPosted (device 4) 4 1100 5 .rnic) 5 false .rnic
+
+-- buffers of one byte from 1,100 on, n of them
+abbrev buffers : ℕ → Rnic
+buffers zero = device 4
+buffers (suc n) = rnicPosted (buffers n) 4 (1100 + n) 1 .rnic
+
 record Check : Type 0 where
   got : List ℕ
   want : List ℕ
@@ -122,6 +145,38 @@ log =
     -- "handles that first FPDU only": a second one in the slice, which would write other bytes at the same place, is not looked at
     ∷ gives (answer (device 4) 4 (paper ++ write 0x1105 4096 (1 ∷ 2 ∷ 3 ∷ 4 ∷ []))) (1 ∷ 24 ∷ [])
     ∷ gives (rnicReceivedStore (device 4) 4 (paper ++ write 0x1105 4096 (1 ∷ 2 ∷ 3 ∷ 4 ∷ [])) store) (put store 1024 beef)
+    -- 19: a write window over the last byte of window 17; with both rights; of the read right alone, done; from the byte after it on, done
+    ∷ gives (registers (device 4) 18 4 1027 1) (19 ∷ [])
+    ∷ gives (registers (device 4) 18 4 1027 3) (19 ∷ [])
+    ∷ gives (registers (device 4) 18 4 1027 2) (0 ∷ [])
+    ∷ gives (registers (device 4) 18 4 1028 1) (0 ∷ [])
+    -- a write window over one of the read right alone: done
+    ∷ gives (registers (window 2) 18 4 1027 1) (0 ∷ [])
+    -- a buffer over the last byte of window 17: 19; from the byte after it on, done
+    ∷ gives (posts (device 4) 4 1027 5) (19 ∷ [])
+    ∷ gives (posts (device 4) 4 1028 5) (0 ∷ [])
+    -- over the last byte of a buffer that waits: on its own stream, on another of the domain, and a write window: 19
+    ∷ gives (posts waits 4 1104 5) (19 ∷ [])
+    ∷ gives (posts waits 5 1104 5) (19 ∷ [])
+    ∷ gives (registers waits 18 4 1104 1) (19 ∷ [])
+    -- a window of the read right alone there, and what ends where the buffer starts or starts where it ends: done
+    ∷ gives (registers waits 18 4 1104 2) (0 ∷ [])
+    ∷ gives (posts waits 5 1105 5) (0 ∷ [])
+    ∷ gives (posts waits 5 1095 5) (0 ∷ [])
+    ∷ gives (registers waits 18 4 1096 1) (0 ∷ [])
+    -- the same place is free again once the window is dropped, the stream is closed, or the buffer is used
+    ∷ gives (registers (rnicDropped (device 4) 17 .rnic) 18 4 1027 1) (0 ∷ [])
+    ∷ gives (posts (rnicClosed waits 4 .rnic) 5 1104 5) (0 ∷ [])
+    ∷ gives (posts (rnicReceived waits 4096 4 send .rnic) 5 1104 5) (0 ∷ [])
+    -- 19 is asked last: 6 window live, 9 not in the part, 3 stream not open, and the ninth buffer, which shares a byte: 10
+    ∷ gives (registers (device 4) 17 4 1027 1) (6 ∷ [])
+    ∷ gives (registers (device 4) 18 4 1023 1) (9 ∷ [])
+    ∷ gives (posts (device 4) 4 1023 5) (9 ∷ [])
+    ∷ gives (posts (device 4) 5 1027 5) (3 ∷ [])
+    ∷ gives (posts (buffers 7) 4 1100 1) (19 ∷ [])
+    ∷ gives (posts (buffers 8) 4 1100 1) (10 ∷ [])
+    -- another domain's entries are not looked at: what they have is not in its part
+    ∷ gives (posts (rnicOpened waits 0 false .rnic) 0 1104 5) (9 ∷ [])
     -- MSN 4,294,967,295 is followed by 0
     ∷ gives (nextMsn 4294967295 ∷ []) (0 ∷ [])
     -- Request, C set, data AB, whole
@@ -135,7 +190,7 @@ all (x ∷ xs) = both (same (x .got) (x .want)) (all xs)
 
 -- the test passes over the whole table
 log-holds : all log ≡ true
-unfolding fpduRead fpduReadOf startupOf inPart inRange windowFits registeredIn registered droppedIn dropped named foundIn wraps spanned posted poppedOf taggedFields untaggedFields taggedRead untaggedRead headerRead segmentRead taggedOf untaggedIn untaggedOf fits placed sendVerdict readVerdict terminateVerdict messageVerdict queueOf opened postedOn domainOpened domainPosted domainRegistered domainDropped partsApplied placedFrom appliedBytes partsReceived partsReceivedBytes domainReceived domainReceivedBytes openedRnic rnicOpened rnicPosted rnicRegistered rnicDropped receivedOwned receivedOwnedStore rnicReceived rnicReceivedStore
+unfolding fpduRead fpduReadOf startupOf inPart inRange windowFits registeredIn registered droppedIn dropped named foundIn wraps spanned posted poppedOf taggedFields untaggedFields taggedRead untaggedRead headerRead segmentRead taggedOf untaggedIn untaggedOf fits placed sendVerdict readVerdict terminateVerdict messageVerdict queueOf opened closed postedOn shares windowShares windowsShare buffersShare streamsShare domainShares lastly domainOpened domainClosed domainPosted domainRegistered domainDropped partsApplied placedFrom appliedBytes partsReceived partsReceivedBytes domainReceived domainReceivedBytes openedRnic rnicOpened rnicClosed rnicPosted rnicRegistered rnicDropped receivedOwned receivedOwnedStore rnicReceived rnicReceivedStore
 log-holds = refl
 
 -- so each case gives what it must

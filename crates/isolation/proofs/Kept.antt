@@ -6,11 +6,13 @@ use mathlib.Core.List.{List}
 use lib.ListN.{length}
 use lib.Dec.{leb}
 use borrow.Author.Tests.{leb-true}
-use Rattle.wire.specs.Wire.{pick, part}
+use Rattle.wire.specs.Wire.{pick, both, part}
 use Rattle.wire.proofs.Laws.{length-put}
 use Rattle.ddp.specs.Place.{fits, placed}
 use Rattle.ddp.specs.Segment.{segmentRead}
 use Rattle.memory.specs.declared.part.Part.{Part}
+use Rattle.memory.specs.declared.part.Outcome.{Outcome}
+use Rattle.memory.specs.declared.part.Outcome.the-variants.{Done, Refused as NotDone}
 use Rattle.ddp.specs.declared.segment.SegmentRead.{SegmentRead}
 use Rattle.ddp.specs.declared.segment.SegmentRead.the-variants.{Wait, Refused as SegmentRefused, Tagged, Untagged}
 use Rattle.memory.specs.declared.window.Window.{Window}
@@ -22,11 +24,25 @@ use Rattle.rdmap.specs.declared.phase.Readiness.the-variants.{Ready, NotReady}
 use Rattle.rdmap.specs.declared.stream.Stream.{Stream}
 use Rattle.domain.specs.Domain.{streamAt, domainOpened, domainClosed, domainPosted, domainTaken, domainRegistered, domainDropped, domainReceived, domainReceivedBytes}
 use Rattle.domain.specs.Parts.{appliedBytes, placedFrom, partsVerdict, partsPlaced, partsBytesWhen, partsReceived, partsReceivedBytes, lifted}
+use Rattle.domain.specs.Sharing.{writes, domainShares, unlessShared, lastly}
 use Rattle.domain.specs.declared.Domain.{Domain}
 use Rattle.domain.specs.declared.DomainDone.{DomainDone}
 use Rattle.domain.specs.declared.DomainClosed.{DomainClosed}
 use Rattle.domain.specs.declared.DomainTaken.{DomainTaken}
 use Rattle.domain.specs.declared.Received.{Received}
+
+-- 19 is asked last: what holds of the domain as it was, of what the call makes of it where nothing is shared, and of what a refusal
+-- makes of it, holds afterwards
+pub lastly-holds :
+    (P : Domain → Type 0) (b : Bool) (d : Domain) (r : DomainDone) → P d →
+    (r .outcome ≡ Done → b ≡ false → P (r .domain)) → ((n : ℕ) → r .outcome ≡ NotDone n → P (r .domain)) → P (lastly b d r .domain)
+unfolding lastly
+lastly-holds P b d r same done refused = go (r .outcome) refl b refl
+  where
+    go : (o : Outcome) → r .outcome ≡ o → (t : Bool) → b ≡ t → P (unlessShared t d r o .domain)
+    go Done e true f = same
+    go Done e false f = done e f
+    go (NotDone n) e t f = refused n e
 
 module _ (d : Domain) where
   done-part : (t : Bool) (x y : DomainDone) → x .domain .part ≡ d .part → y .domain .part ≡ d .part → pick t x y .domain .part ≡ d .part
@@ -55,7 +71,7 @@ module _ (d : Domain) where
 
   pub posted-keeps : (slot start len : ℕ) → domainPosted d slot start len .domain .part ≡ d .part
   unfolding domainPosted
-  posted-keeps slot start len = done-part (leb slot 3) _ _ refl refl
+  posted-keeps slot start len = done-part (leb slot 3) _ _ (lastly-holds (λ x. x .part ≡ d .part) (domainShares d start len) d _ refl (λ e f. refl) (λ n e. refl)) refl
 
   pub taken-keeps : (slot : ℕ) → domainTaken d slot .domain .part ≡ d .part
   unfolding domainTaken
@@ -63,7 +79,8 @@ module _ (d : Domain) where
 
   pub registered-keeps : (slot key base len place rights : ℕ) → domainRegistered d slot key base len place rights .domain .part ≡ d .part
   unfolding domainRegistered
-  registered-keeps slot key base len place rights = refl
+  registered-keeps slot key base len place rights =
+      lastly-holds (λ x. x .part ≡ d .part) (both (writes rights) (domainShares d place len)) d _ refl (λ e f. refl) (λ n e. refl)
 
   pub dropped-keeps : (slot : ℕ) → domainDropped d slot .domain .part ≡ d .part
   unfolding domainDropped

@@ -1,3 +1,4 @@
+pub mod Apart
 pub mod Calls
 pub mod Cases
 pub mod Induction
@@ -12,3 +13,4 @@ pub mod Reachable
 pub mod Runs
 pub mod Steps
 pub mod WellFormed
+pub mod Writers

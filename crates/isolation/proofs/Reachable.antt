@@ -60,6 +60,7 @@ use Rattle.rdmap.specs.declared.stream.StreamClosed.{StreamClosed}
 use Rattle.rdmap.specs.declared.stream.StreamTaken.{StreamTaken}
 use Rattle.domain.specs.Domain.{noStream, streamAt, withStream, withWindows, newDomain, domainOpened, domainClosed, domainPosted, domainTaken, domainRegistered, domainDropped, domainReceived, domainReceivedBytes}
 use Rattle.domain.specs.Parts.{appliedBytes, placedFrom, partsApplied, taggedVerdict, partsVerdict, partsJudged, partsPlaced, partsAnswered, partsWhen, partsBytesWhen, partsReceived, partsReceivedBytes, killed, lifted}
+use Rattle.domain.specs.Sharing.{writes, domainShares}
 use Rattle.domain.specs.declared.Domain.{Domain}
 use Rattle.domain.specs.declared.DomainDone.{DomainDone}
 use Rattle.domain.specs.declared.DomainClosed.{DomainClosed}
@@ -76,6 +77,7 @@ use Rattle.isolation.proofs.Calls.{World, Step, Opened, view}
 use Rattle.isolation.proofs.Runs.{Interface, Run}
 use Rattle.isolation.proofs.Runs.Run.{stop, next}
 use Rattle.isolation.proofs.Induction.{made-fit, run-fit}
+use Rattle.isolation.proofs.Kept.{lastly-holds}
 use Rattle.isolation.proofs.Openings.{opened-fit, opened-view}
 use Rattle.isolation.proofs.Steps.{own, alien}
 use Rattle.isolation.proofs.WellFormed.{Fit, part-fits}
@@ -192,7 +194,7 @@ module _ (p : Part) where
       received-waits = when-waits (readiness (s .phase))
 
 -- ---- a new domain
-none-live : (n i : ℕ) → windowAt (replicate n noWindow) i ≡ noWindow
+pub none-live : (n i : ℕ) → windowAt (replicate n noWindow) i ≡ noWindow
 none-live zero i = refl
 none-live (suc n) zero = refl
 none-live (suc n) (suc i) = none-live n i
@@ -221,7 +223,7 @@ with-stream d slot s k h w = record {
 with-windows : (d : Domain) (ws : List Window) → Sound d → WindowsIn (d .part) ws → Sound (withWindows d ws)
 with-windows d ws k all = record { windowed = all; four = k .four; waiting = k .waiting }
 
-slot-lt : (slot : ℕ) → leb slot 3 ≡ true → slot < 4
+pub slot-lt : (slot : ℕ) → leb slot 3 ≡ true → slot < 4
 slot-lt slot e = omega (arith, leb-true slot 3 e)
 
 -- ---- each step of a domain keeps it
@@ -255,7 +257,10 @@ module _ (d : Domain) (k : Sound d) where
   pub posted-sound : (slot start len : ℕ) → Sound (domainPosted d slot start len .domain)
   unfolding domainPosted
   posted-sound slot start len =
-      done-sound (leb slot 3) _ _ (λ e. with-stream d slot _ k (slot-lt slot e) (posted-on-waits (d .part) (streamAt d slot) (k .waiting slot (slot-lt slot e)) start len)) k
+      done-sound (leb slot 3) _ _
+      (λ e. let z = with-stream d slot _ k (slot-lt slot e) (posted-on-waits (d .part) (streamAt d slot) (k .waiting slot (slot-lt slot e)) start len) in
+      lastly-holds Sound (domainShares d start len) d _ k (λ q f. z) (λ n q. z))
+      k
 
   pub taken-sound : (slot : ℕ) → Sound (domainTaken d slot .domain)
   unfolding domainTaken
@@ -265,7 +270,8 @@ module _ (d : Domain) (k : Sound d) where
   pub registered-sound : (slot key base len place rights : ℕ) → Sound (domainRegistered d slot key base len place rights .domain)
   unfolding domainRegistered
   registered-sound slot key base len place rights =
-      with-windows d _ k (registered-in (d .part) (d .windows) slot key base len place rights (k .windowed))
+      let z = with-windows d _ k (registered-in (d .part) (d .windows) slot key base len place rights (k .windowed)) in
+      lastly-holds Sound (both (writes rights) (domainShares d place len)) d _ k (λ q f. z) (λ n q. z)
 
   pub dropped-sound : (slot : ℕ) → Sound (domainDropped d slot .domain)
   unfolding domainDropped
@@ -328,15 +334,19 @@ reached-sound o mem {w = w} s r = run-sound (opened-fit o mem w s) (opening-soun
 
 -- ---- where a payload goes
 
+-- where a verdict places a payload, if it places one
+abbrev pub Placing : (ℕ → Type 0) → Verdict → Type 0
+Placing Q (VerdictRefused r) = Unit {0}
+Placing Q Nothing = Unit {0}
+Placing Q (Write at) = Q at
+Placing Q (SendMore at opcode taken) = Q at
+Placing Q (SendLast at opcode start len inv) = Q at
+Placing Q (Read r) = Unit {0}
+Placing Q (Terminate layer etype code) = Unit {0}
+
 -- a verdict that places n bytes places them in the part
 abbrev pub Lands : Part → Verdict → ℕ → Type 0
-Lands p (VerdictRefused r) n = Unit {0}
-Lands p Nothing n = Unit {0}
-Lands p (Write at) n = Lies p at n
-Lands p (SendMore at opcode taken) n = Lies p at n
-Lands p (SendLast at opcode start len inv) n = Lies p at n
-Lands p (Read r) n = Unit {0}
-Lands p (Terminate layer etype code) n = Unit {0}
+Lands p v n = Placing (λ at. Lies p at n) v
 
 -- the paper's rule, with no guard: "payload byte i goes to place + (TO − base) + i", "to buffer start + MO + i"
 abbrev pub ruled : ℕ → Verdict → List ℕ → List ℕ → List ℕ
@@ -374,31 +384,56 @@ applied-whole p (SendLast at opcode start len inv) payload bytes e l = placed-wh
 applied-whole p (Read r) payload bytes e l = refl
 applied-whole p (Terminate layer etype code) payload bytes e l = refl
 
+-- a segment that queue 0 takes: a buffer waits, and the payload ends within it
+untagged-fits :
+    (s : Stream) (msn mo n start end : ℕ) → untaggedOf (queueOf s 0) 0 msn mo n ≡ UntaggedAt start end →
+    (0 < s .sends .buffers .count) × (start + n ≤ getD (s .sends .buffers .entries) 0 noBuffer .len)
+unfolding untaggedOf untaggedIn queueOf
+untagged-fits s msn mo n start end e =
+    go (eqb msn (s .sends .msn)) (ltb 0 (s .sends .buffers .count)) refl (eqb mo (s .sends .taken)) (leb (mo + n) (getD (s .sends .buffers .entries) 0 noBuffer .len)) refl e
+  where
+    go :
+        (a b : Bool) → ltb 0 (s .sends .buffers .count) ≡ b →
+        (c t : Bool) → leb (mo + n) (getD (s .sends .buffers .entries) 0 noBuffer .len) ≡ t →
+        pick a (pick b (pick c (pick t (UntaggedAt mo (mo + n)) (UntaggedRefused messageTooLong)) (UntaggedRefused invalidMo)) (UntaggedRefused noBufferWaits)) (UntaggedRefused invalidMsn) ≡ UntaggedAt start end →
+        (0 < s .sends .buffers .count) × (start + n ≤ getD (s .sends .buffers .entries) 0 noBuffer .len)
+    go false b f c t g e = absurd (let no : _≡_ {A = ℕ} 0 1 = cc in omega arith)
+    go true false f c t g e = absurd (let no : _≡_ {A = ℕ} 0 1 = cc in omega arith)
+    go true true f false t g e = absurd (let no : _≡_ {A = ℕ} 0 1 = cc in omega arith)
+    go true true f true false g e = absurd (let no : _≡_ {A = ℕ} 0 1 = cc in omega arith)
+    go true true f true true g e =
+        let same : mo ≡ start = cc in
+        (ltb-true 0 (s .sends .buffers .count) f, omega (arith, leb-true (mo + n) (getD (s .sends .buffers .entries) 0 noBuffer .len) g))
+
 -- ---- a verdict, by the tests that give it
-module _ (p : Part) (n : ℕ) where
-  pick-lands : (t : Bool) (x y : Verdict) → Lands p x n → Lands p y n → Lands p (pick t x y) n
+module _ (Q : ℕ → Type 0) where
+  pick-lands : (t : Bool) (x y : Verdict) → Placing Q x → Placing Q y → Placing Q (pick t x y)
   pick-lands true x y f g = f
   pick-lands false x y f g = g
 
-  after-lands : (c : Control) (v : Verdict) → Lands p v n → Lands p (after c v) n
+  after-lands : (c : Control) (v : Verdict) → Placing Q v → Placing Q (after c v)
   after-lands Valid v l = l
   after-lands (ControlRefused r) v l = tt
 
-  write-lands :
-      (w : Window) (number stag to control : ℕ) → WindowIn p w →
-      (t : Tagged) → taggedOf w number stag to n ≡ t → Lands p (writeVerdict w control t) n
-  write-lands w number stag to control one (TaggedRefused r) e = tt
-  write-lands w number stag to control one Nowhere e = after-lands (controlled control (eqb (opcodeOf control) 0)) Nothing tt
-  write-lands w number stag to control one (TaggedAt place) e =
-      after-lands (controlled control (eqb (opcodeOf control) 0)) (pick (mayWrite w) (Write place) (VerdictRefused noWriteRight))
-      (pick-lands (mayWrite w) (Write place) (VerdictRefused noWriteRight) (tagged-in p w number stag to n place one e) tt)
+  pub write-lands :
+      (w : Window) (number stag to control n : ℕ) →
+      ((at : ℕ) → taggedOf w number stag to n ≡ TaggedAt at → mayWrite w ≡ true → Q at) →
+      (t : Tagged) → taggedOf w number stag to n ≡ t → Placing Q (writeVerdict w control t)
+  write-lands w number stag to control n one (TaggedRefused r) e = tt
+  write-lands w number stag to control n one Nowhere e = after-lands (controlled control (eqb (opcodeOf control) 0)) Nothing tt
+  write-lands w number stag to control n one (TaggedAt place) e =
+      after-lands (controlled control (eqb (opcodeOf control) 0)) (pick (mayWrite w) (Write place) (VerdictRefused noWriteRight)) (go (mayWrite w) refl)
+    where
+      go : (t : Bool) → mayWrite w ≡ t → Placing Q (pick t (Write place) (VerdictRefused noWriteRight))
+      go true m = one place e m
+      go false m = tt
 
-  invalidated-lands : (b : Buffer) (opcode start end stag : ℕ) → Lies p (b .start + start) n → (f : Found) → Lands p (invalidated b opcode start end stag f) n
+  invalidated-lands : (b : Buffer) (opcode start end stag : ℕ) → Q (b .start + start) → (f : Found) → Placing Q (invalidated b opcode start end stag f)
   invalidated-lands b opcode start end stag l Foreign = tt
   invalidated-lands b opcode start end stag l Missing = tt
   invalidated-lands b opcode start end stag l (Slot slot) = l
 
-  send-lands : (w : Window) (number : ℕ) (b : Buffer) (h : UntaggedHeader) (start end : ℕ) → Lies p (b .start + start) n → Lands p (sendVerdict w number b h start end) n
+  send-lands : (w : Window) (number : ℕ) (b : Buffer) (h : UntaggedHeader) (start end : ℕ) → Q (b .start + start) → Placing Q (sendVerdict w number b h start end)
   unfolding sendVerdict
   send-lands w number b h start end l =
       pick-lands (h .last)
@@ -412,17 +447,17 @@ module _ (p : Part) (n : ℕ) where
       (invalidated-lands b (opcodeOf (h .control)) start end (h .stag) l (foundIn w number (h .stag))) l)
       l
 
-  source-in-lands : (w : Window) (r : ReadRequest) (s : Span) → Lands p (sourceIn w r s) n
+  source-in-lands : (w : Window) (r : ReadRequest) (s : Span) → Placing Q (sourceIn w r s)
   source-in-lands w r Wrap = tt
   source-in-lands w r Outside = tt
   source-in-lands w r (Inside place) = pick-lands (mayRead w) (Read r) (VerdictRefused noReadRight) tt tt
 
-  source-lands : (w : Window) (r : ReadRequest) (f : Found) → Lands p (sourceOf w r f) n
+  source-lands : (w : Window) (r : ReadRequest) (f : Found) → Placing Q (sourceOf w r f)
   source-lands w r Foreign = tt
   source-lands w r Missing = tt
   source-lands w r (Slot slot) = source-in-lands w r (spanned w (r .«source_to») (r .size))
 
-  read-lands : (w : Window) (number : ℕ) (last : Bool) (payload : List ℕ) → Lands p (readVerdict w number last payload) n
+  read-lands : (w : Window) (number : ℕ) (last : Bool) (payload : List ℕ) → Placing Q (readVerdict w number last payload)
   unfolding readVerdict
   read-lands w number last payload =
       let r = requestAt payload in
@@ -430,62 +465,42 @@ module _ (p : Part) (n : ℕ) where
       pick-lands (both last (eqb (length payload) 28)) (pick (eqb (r .size) 0) (Read r) judged) (VerdictRefused malformed)
       (pick-lands (eqb (r .size) 0) (Read r) judged tt (source-lands w r (foundIn w number (r .«source_stag»)))) tt
 
-  terminate-lands : (last : Bool) (payload : List ℕ) → Lands p (terminateVerdict last payload) n
+  terminate-lands : (last : Bool) (payload : List ℕ) → Placing Q (terminateVerdict last payload)
   unfolding terminateVerdict
   terminate-lands last payload =
       pick-lands (both last (leb 4 (length payload)))
       (Terminate (getD payload 0 0 / 16) (getD payload 0 0 % 16) (getD payload 1 0)) (VerdictRefused malformed) tt tt
 
-  -- a segment that queue 0 takes: a buffer waits, and the payload ends within it
-  untagged-fits :
-      (s : Stream) (msn mo start end : ℕ) → untaggedOf (queueOf s 0) 0 msn mo n ≡ UntaggedAt start end →
-      (0 < s .sends .buffers .count) × (start + n ≤ getD (s .sends .buffers .entries) 0 noBuffer .len)
-  unfolding untaggedOf untaggedIn queueOf
-  untagged-fits s msn mo start end e =
-      go (eqb msn (s .sends .msn)) (ltb 0 (s .sends .buffers .count)) refl (eqb mo (s .sends .taken)) (leb (mo + n) (getD (s .sends .buffers .entries) 0 noBuffer .len)) refl e
+  module _
+      (w : Window) (number : ℕ) (s : Stream) (h : UntaggedHeader) (payload : List ℕ) (n : ℕ)
+      (k : (start : ℕ) → 0 < s .sends .buffers .count → start + n ≤ currentBuffer (s .sends) .len → Q (currentBuffer (s .sends) .start + start))
     where
-      go :
-          (a b : Bool) → ltb 0 (s .sends .buffers .count) ≡ b →
-          (c t : Bool) → leb (mo + n) (getD (s .sends .buffers .entries) 0 noBuffer .len) ≡ t →
-          pick a (pick b (pick c (pick t (UntaggedAt mo (mo + n)) (UntaggedRefused messageTooLong)) (UntaggedRefused invalidMo)) (UntaggedRefused noBufferWaits)) (UntaggedRefused invalidMsn) ≡ UntaggedAt start end →
-          (0 < s .sends .buffers .count) × (start + n ≤ getD (s .sends .buffers .entries) 0 noBuffer .len)
-      go false b f c t g e = absurd (let no : _≡_ {A = ℕ} 0 1 = cc in omega arith)
-      go true false f c t g e = absurd (let no : _≡_ {A = ℕ} 0 1 = cc in omega arith)
-      go true true f false t g e = absurd (let no : _≡_ {A = ℕ} 0 1 = cc in omega arith)
-      go true true f true false g e = absurd (let no : _≡_ {A = ℕ} 0 1 = cc in omega arith)
-      go true true f true true g e =
-          let same : mo ≡ start = cc in
-          (ltb-true 0 (s .sends .buffers .count) f, omega (arith, leb-true (mo + n) (getD (s .sends .buffers .entries) 0 noBuffer .len) g))
+      message-lands :
+          (start end : ℕ) → untaggedOf (queueOf s (h .qn)) (h .qn) (h .msn) (h .mo) n ≡ UntaggedAt start end →
+          Placing Q (messageVerdict w number (currentBuffer (s .sends)) h start end payload)
+      unfolding messageVerdict
+      message-lands start end e = go (eqb (h .qn) 0) refl
+        where
+          first : eqb (h .qn) 0 ≡ true → Q (getD (s .sends .buffers .entries) 0 noBuffer .start + start)
+          first q =
+              let z = untagged-fits s (h .msn) (h .mo) n start end (subst (λ (m : ℕ). untaggedOf (queueOf s m) m (h .msn) (h .mo) n ≡ UntaggedAt start end) (eqb-true (h .qn) 0 q) e) in
+              k start (z .0) (z .1)
 
-  module _ (w : Window) (number : ℕ) (s : Stream) (k : BuffersIn p (s .sends .buffers)) (h : UntaggedHeader) (payload : List ℕ) where
-    message-lands :
-        (start end : ℕ) → untaggedOf (queueOf s (h .qn)) (h .qn) (h .msn) (h .mo) n ≡ UntaggedAt start end →
-        Lands p (messageVerdict w number (currentBuffer (s .sends)) h start end payload) n
-    unfolding messageVerdict
-    message-lands start end e = go (eqb (h .qn) 0) refl
-      where
-        first : eqb (h .qn) 0 ≡ true → Lies p (getD (s .sends .buffers .entries) 0 noBuffer .start + start) n
-        first q =
-            let z = untagged-fits s (h .msn) (h .mo) start end (subst (λ (m : ℕ). untaggedOf (queueOf s m) m (h .msn) (h .mo) n ≡ UntaggedAt start end) (eqb-true (h .qn) 0 q) e) in
-            let b = k 0 (z .0) in
-            (omega (arith, b .0), omega (arith, b .1, z .1))
+          go :
+              (t : Bool) → eqb (h .qn) 0 ≡ t →
+              Placing Q
+              (pick t (sendVerdict w number (getD (s .sends .buffers .entries) 0 noBuffer) h start end)
+              (pick (eqb (h .qn) 1) (readVerdict w number (h .last) payload) (terminateVerdict (h .last) payload)))
+          go true q = send-lands w number (getD (s .sends .buffers .entries) 0 noBuffer) h start end (first q)
+          go false q =
+              pick-lands (eqb (h .qn) 1) (readVerdict w number (h .last) payload) (terminateVerdict (h .last) payload)
+              (read-lands w number (h .last) payload) (terminate-lands (h .last) payload)
 
-        go :
-            (t : Bool) → eqb (h .qn) 0 ≡ t →
-            Lands p
-            (pick t (sendVerdict w number (getD (s .sends .buffers .entries) 0 noBuffer) h start end)
-            (pick (eqb (h .qn) 1) (readVerdict w number (h .last) payload) (terminateVerdict (h .last) payload)))
-            n
-        go true q = send-lands w number (getD (s .sends .buffers .entries) 0 noBuffer) h start end (first q)
-        go false q =
-            pick-lands (eqb (h .qn) 1) (readVerdict w number (h .last) payload) (terminateVerdict (h .last) payload)
-            (read-lands w number (h .last) payload) (terminate-lands (h .last) payload)
-
-    untagged-lands : (u : Untagged) → untaggedOf (queueOf s (h .qn)) (h .qn) (h .msn) (h .mo) n ≡ u → Lands p (untaggedVerdict w number (s .sends .opcode) (currentBuffer (s .sends)) h payload u) n
-    untagged-lands (UntaggedRefused r) e = tt
-    untagged-lands (UntaggedAt start end) e =
-        after-lands (controlled (h .control) (fitsQueue (h .qn) (s .sends .opcode) (opcodeOf (h .control)))) (messageVerdict w number (currentBuffer (s .sends)) h start end payload)
-        (message-lands start end e)
+      pub untagged-lands : (u : Untagged) → untaggedOf (queueOf s (h .qn)) (h .qn) (h .msn) (h .mo) n ≡ u → Placing Q (untaggedVerdict w number (s .sends .opcode) (currentBuffer (s .sends)) h payload u)
+      untagged-lands (UntaggedRefused r) e = tt
+      untagged-lands (UntaggedAt start end) e =
+          after-lands (controlled (h .control) (fitsQueue (h .qn) (s .sends .opcode) (opcodeOf (h .control)))) (messageVerdict w number (currentBuffer (s .sends)) h start end payload)
+          (message-lands start end e)
 
 -- in a sound domain a segment that was read is judged to go into the part, or nowhere
 module _ (d : Domain) (k : Sound d) (number slot : ℕ) (h : slot < 4) (input : List ℕ) where
@@ -498,9 +513,11 @@ module _ (d : Domain) (k : Sound d) (number slot : ℕ) (h : slot < 4) (input : 
       let w = windowAt (d .windows) (slotNamed (t .stag)) in
       subst (Lands (d .part) (taggedVerdict w number t len))
       (sym (length-part input start len (inside (streamAt d slot .framing .crc) input (TaggedSegment total t start len) e)))
-      (write-lands (d .part) len w number (t .stag) (t .to) (t .control) (k .windowed (slotNamed (t .stag))) (taggedOf w number (t .stag) (t .to) len) refl)
+      (write-lands (λ at. Lies (d .part) at len) w number (t .stag) (t .to) (t .control) len
+      (λ at q m. tagged-in (d .part) w number (t .stag) (t .to) len at (k .windowed (slotNamed (t .stag))) q) (taggedOf w number (t .stag) (t .to) len) refl)
   judged-lands (UntaggedSegment total t start len) e =
-      untagged-lands (d .part) (length (part input start len)) (windowAt (d .windows) (slotNamed (stagNamed t (part input start len)))) number (streamAt d slot) (k .waiting slot h .inside) t (part input start len)
+      untagged-lands (λ at. Lies (d .part) at (length (part input start len))) (windowAt (d .windows) (slotNamed (stagNamed t (part input start len)))) number (streamAt d slot) t (part input start len) (length (part input start len))
+      (λ at c f. let b = k .waiting slot h .inside 0 c in (omega (arith, b .0), omega (arith, b .1, f)))
       (untaggedOf (queueOf (streamAt d slot) (t .qn)) (t .qn) (t .msn) (t .mo) (length (part input start len))) refl
 
   module _ (bytes : List ℕ) (long : length bytes ≡ d .part .end - d .part .start) where

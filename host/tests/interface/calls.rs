@@ -89,6 +89,30 @@ fn rights_keys_and_lent_stores() {
 }
 
 #[test]
+fn two_writers_on_one_spot() {
+    let (mut device, _) = night(RIGHT_WRITE);
+    let mut register = |place, rights| {
+        let (key, base, length) = (5, 4096, 4);
+        let window = Window {
+            key,
+            base,
+            length,
+            place,
+            rights,
+        };
+        device.register(18, window)
+    };
+    assert_eq!(register(1027, RIGHT_WRITE), Err(Error::Refused(19)));
+    assert_eq!(register(1028, RIGHT_WRITE | RIGHT_READ), Ok(()));
+    assert_eq!(device.post(4, 1031, 2), Err(Error::Refused(19)));
+    assert_eq!(device.post(4, 1032, 2), Ok(()));
+    assert_eq!(device.post(4, 1033, 1), Err(Error::Refused(19)));
+    assert_eq!(device.live_count(1), Ok(2));
+    let (buffers, reads) = (1, 0);
+    assert_eq!(device.close_stream(4), Ok(Closed { buffers, reads }));
+}
+
+#[test]
 fn sends_reads_and_a_terminate() {
     let (mut device, mut store) = night(RIGHT_READ);
     assert_eq!(device.take(4), Err(Error::Refused(11)));

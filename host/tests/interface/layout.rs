@@ -40,11 +40,10 @@ impl Worked {
 
     /// Fills a stream's queues and starts a Send.
     fn work_stream(&mut self, stream: u64) {
-        let quarter = STORE as u64 / 4;
-        let end = (stream / 4 + 1) * quarter;
         self.call(call::OPEN_STREAM, &[stream, 1]);
-        for _ in 0..8 {
-            self.call(call::POST, &[stream, end - 257, 257]);
+        for buffer in 0..8 {
+            let start = place(stream / 4, 16 + stream % 4 * 8 + buffer);
+            self.call(call::POST, &[stream, start, 257]);
         }
         let window = (stream / 4) * 16;
         let mut read = Draft::new(false, 1);
@@ -67,7 +66,7 @@ impl Worked {
         opening.extend((0..4).flat_map(|domain| [domain * quarter, (domain + 1) * quarter]));
         self.call(call::OPEN, &opening);
         for window in 0..64 {
-            let place = (window / 16 + 1) * quarter - 257;
+            let place = place(window / 16, window % 16);
             let window = [window, 255, u64::MAX - 257, 257, place, 3];
             self.call(call::REGISTER, &window);
         }
@@ -76,6 +75,11 @@ impl Worked {
         unexpected.qn = u32::MAX;
         (0..16).for_each(|stream| self.receive(stream, &unexpected));
     }
+}
+
+/// Gives the place of a domain's entry of a number, 257 bytes before the one of the number before: no two share a byte.
+fn place(domain: u64, number: u64) -> u64 {
+    (domain + 1) * (STORE as u64 / 4) - (number + 1) * 257
 }
 
 /// Gives a call's arguments, those left out being 0.
@@ -179,7 +183,7 @@ fn equal_devices() {
 /// Says whether words are an answer: a kind that there is, and a local refusal's number where it is one.
 fn is_answer(words: &Words) -> bool {
     match words[0] {
-        kind::REFUSED => (1..=11).contains(&words[1]),
+        kind::REFUSED => matches!(words[1], 1..=11 | 19),
         other => other <= kind::ENDED,
     }
 }

@@ -30,7 +30,9 @@ fn nights<D: Calls>(new: fn() -> D, size: usize, seeds: std::ops::Range<u64>, li
     ] {
         assert!(tally.count_all(kind) >= 10, "{kind}:\n{tally}");
     }
-    let local = (1..=11).map(|number| format!("refused {number}"));
+    let local = (1..=11)
+        .chain([19])
+        .map(|number| format!("refused {number}"));
     let faults = FAULTS.iter().map(|fault| format!("refused {fault}"));
     for kind in local.chain(faults) {
         assert!(tally.count_all(&kind) >= 3, "{kind}:\n{tally}");

@@ -2,8 +2,13 @@
 
 use super::malformed::malform;
 use super::nights::Night;
+use super::places::gaps;
 use crate::hex;
-use crate::state::{stream_domain, Part, STREAMS, WINDOWS, WINDOWS_PER_DOMAIN};
+use crate::state::{stream_domain, Part, RIGHT_WRITE};
+use crate::state::{STREAMS, WINDOWS, WINDOWS_PER_DOMAIN};
+
+/// Of how many such lengths a small part has room for what peers are to write to.
+const SHARES: u64 = 24;
 
 impl Night {
     /// Calls with a number, which is now and then out of range.
@@ -50,6 +55,30 @@ impl Night {
         }
     }
 
+    /// Picks a place and a length for what peers are to write to, mostly where the domain has no such thing yet: up to its
+    /// neighbours, away from them or, now and then, a byte into one.
+    fn own_extent(&mut self, domain: usize, usual: u64) -> (u64, u64) {
+        let part = self.interpreter.device.parts[domain];
+        let usual = usual.min((part.end - part.start) / SHARES).max(1);
+        let (place, length) = self.extent(part, usual);
+        let gaps = gaps(&self.interpreter.device, domain);
+        let prng = &mut self.prng;
+        if !part.holds(place, length) || gaps.is_empty() || prng.percent(4) {
+            return (place, length);
+        }
+        let gap = gaps[prng.index(gaps.len())].clone();
+        let room = gap.end - gap.start;
+        let length = length.min(usual.max(room / 3)).min(room);
+        let last = gap.end - length;
+        match prng.below(40) {
+            0 => (gap.start.wrapping_sub(1), length),
+            1 => (last + 1, length),
+            2..=15 => (gap.start, length),
+            16..=25 => (last, length),
+            _ => (prng.between(gap.start, last), length),
+        }
+    }
+
     /// Registers a window of a domain with these rights or any, most often in the lowest free slot.
     pub(super) fn register(&mut self, domain: usize, rights: Option<u8>) {
         let free = self.interpreter.device.free(domain as u64).unwrap_or(0);
@@ -58,14 +87,17 @@ impl Night {
             false => self.prng.index(WINDOWS_PER_DOMAIN),
         };
         let window = self.number(domain * WINDOWS_PER_DOMAIN + slot, WINDOWS);
-        let (place, length) = self.extent(self.interpreter.device.parts[domain], 120);
-        let (key, base) = (self.key(), self.base(length));
         let prng = &mut self.prng;
         let rights = match (rights, prng.below(60)) {
             (Some(rights), _) => u64::from(rights),
             (None, 0) => prng.pick(&[0, 4, u64::MAX]),
             (None, _) => prng.between(1, 3),
         };
+        let (place, length) = match rights & u64::from(RIGHT_WRITE) {
+            0 => self.extent(self.interpreter.device.parts[domain], 120),
+            _ => self.own_extent(domain, 120),
+        };
+        let (key, base) = (self.key(), self.base(length));
         self.say(format!(
             "register {window} {key} {base} {length} {place} {rights}"
         ));
@@ -108,7 +140,7 @@ impl Night {
 
     /// Posts a buffer.
     pub(super) fn post(&mut self, stream: usize) {
-        let (start, length) = self.extent(self.interpreter.device.parts[stream_domain(stream)], 90);
+        let (start, length) = self.own_extent(stream_domain(stream), 90);
         let number = self.number(stream, STREAMS);
         self.say(format!("post {number} {start} {length}"));
     }

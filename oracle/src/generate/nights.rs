@@ -149,7 +149,7 @@ impl Night {
             925..=934 => self.open_stream(stream),
             935..=944 => self.batch(stream, 0),
             945..=964 => self.batch(stream, 12),
-            965..=969 => (0..9).for_each(|_| self.post(stream)),
+            965..=969 => (0..10).for_each(|_| self.post(stream)),
             970..=974 => (0..9).for_each(|_| self.receive_good(stream, Kind::Read)),
             975..=979 => (0..9).for_each(|_| self.numbered("take", stream, STREAMS)),
             980..=984 => (0..16).for_each(|_| self.register(domain, None)),

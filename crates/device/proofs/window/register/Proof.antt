@@ -1,10 +1,6 @@
 -- `register` meets its contract: the number decides, and the rest is the slot's.
 use Rattle.rnic.specs.Rnic.{rnicRegistered}
-use Rattle.domain.specs.Domain.{domainRegistered}
-use Rattle.memory.specs.Window.{registered}
 use borrow.Author.Tests.{le-leb, lt-leb}
-use Prim.Native.Nat.{_%_}
-use native.Mathlib.Omega.{arith}
 use borrow.Author.Needs.{needs}
 use Rattle.device.proofs.window.register.Statement.{statement}
 use Rattle.device.proofs.window.register.Tie as tie
@@ -13,15 +9,13 @@ register-slot-requires : tie.Need-register-slot-requires
 register-slot-requires c κs = search needs
 
 returns : tie.Need-returns
-unfolding rnicRegistered domainRegistered registered
+unfolding rnicRegistered
 returns c =
-    let a = c .before .before .before .args in
     let h = le-leb _ _ (c .before .before .if1 .taken) in
-    let k = le-leb (a .window % 16) 15 (omega arith) in
-    (simp (h, k) (c .register-slot .ensures .0), simp (h, k) (c .register-slot .ensures .1))
+    (simp h (c .register-slot .ensures .0), simp h (c .register-slot .ensures .1))
 
 returns-2 : tie.Need-returns-2
-unfolding rnicRegistered domainRegistered registered
+unfolding rnicRegistered
 returns-2 c = let h = lt-leb _ _ (c .if1 .left) in (simp h, simp h)
 
 pub register-spec : {M : Type 1} → statement M

@@ -1,11 +1,8 @@
--- `register_slot` meets its contract: what is stored is what registering makes of the window.
-use Rattle.block.proofs.Stored.{part-at, window-at, window-changed}
-use Rattle.device.specs.Lifted.{windowOf, withWindowOf}
-use Rattle.block.specs.Device.{rnicAt}
-use Rattle.rnic.specs.Rnic.{domainAt}
-use Rattle.memory.specs.declared.window.WindowDone.{WindowDone}
+-- `register_slot` meets its contract: what registering makes of the window decides, and last whether bytes are shared.
+use Rattle.device.proofs.Shared.{register-kept, register-shared, register-done}
+use Rattle.block.proofs.Stored.{window-changed}
 use Rattle.memory.specs.Window.{registeredIn}
-use mathlib.Core.Path.{_≡_, sym, ap, _∙_}
+use mathlib.Core.Path.{sym, _∙_}
 use borrow.Author.Needs.{needs}
 use Rattle.device.proofs.window.register_slot.Statement.{statement}
 use Rattle.device.proofs.window.register_slot.Tie as tie
@@ -19,22 +16,46 @@ load-part-requires c κs = search needs
 register-in-requires : tie.Need-register-in-requires
 register-in-requires c κs = search needs
 
-store-window-requires : tie.Need-store-window-requires
-store-window-requires c κs = (c .before .before .before .before .before .before .before .before .before .pre .0, c .before .before .before .before .before .before .before .before .before .pre .1, search needs)
+enum-told : tie.Need-enum-told
+enum-told c = search needs
+
+enum-known-outcome : tie.Need-enum-known-outcome
+enum-known-outcome c = search needs
 
 returns : tie.Need-returns
 returns c =
     let a = c .before .before .before .before .before .before .before .before .before .before .args in
     let h = c .before .before .before .before .before .before .before .before .before .before .pre in
-    let w = a .words .now in
+    let x = c .before .before .before .register-in in
+    register-kept (a .words .now) (a .domain) (a .slot) (h .0) (h .1) (a .key) (a .base) (a .len) (a .place) (a .rights) (x .result)
+    (x .ensures ∙ (λ i. registeredIn (c .before .before .before .before .before .before .before .load-window .ensures i) (c .before .before .before .before .load-part .ensures i) (a .key) (a .base) (a .len) (a .place) (a .rights))) _
+    (c .before .outcome .given .1)
+
+write-shares-requires : tie.Need-write-shares-requires
+write-shares-requires c κs = search needs
+
+returns-2 : tie.Need-returns-2
+returns-2 c =
+    let a = c .before .before .before .before .before .before .before .before .before .before .before .before .args in
+    let h = c .before .before .before .before .before .before .before .before .before .before .before .before .pre in
+    let x = c .before .before .before .before .before .register-in in
+    register-shared (a .words .now) (a .domain) (a .slot) (h .0) (h .1) (a .key) (a .base) (a .len) (a .place) (a .rights) (x .result)
+    (x .ensures ∙ (λ i. registeredIn (c .before .before .before .before .before .before .before .before .before .load-window .ensures i) (c .before .before .before .before .before .before .load-part .ensures i) (a .key) (a .base) (a .len) (a .place) (a .rights)))
+    (c .before .before .before .enum-told .given .1) (sym (c .before .write-shares .ensures) ∙ c .if1 .taken)
+
+store-window-requires : tie.Need-store-window-requires
+store-window-requires c κs = search needs
+
+returns-3 : tie.Need-returns-3
+returns-3 c =
+    let a = c .before .before .before .before .before .before .before .before .before .before .before .before .before .before .args in
+    let h = c .before .before .before .before .before .before .before .before .before .before .before .before .before .before .pre in
     let v = c .store-window .last .0 in
-    let done = c .before .before .before .register-in in
-    let window = c .before .before .before .before .before .before .before .load-window .ensures ∙ sym (window-at w (a .domain) (h .0) (a .slot) (h .1)) in
-    let own = c .before .before .before .before .load-part .ensures ∙ sym (part-at w (a .domain) (h .0)) in
-    let e : done .result ≡ registeredIn (windowOf (rnicAt w) (a .domain) (a .slot)) (domainAt (rnicAt w) (a .domain) .part) (a .key) (a .base) (a .len) (a .place) (a .rights) =
-    done .ensures ∙ (λ i. registeredIn (window i) (own i) (a .key) (a .base) (a .len) (a .place) (a .rights)) in
-    let stored = window-changed w v (a .domain) (h .0) (search needs) (a .slot) (h .1) (done .result .window) (c .store-window .ensures .0) (c .store-window .ensures .1) in
-    (ap (λ (x : WindowDone). x .outcome) e, stored ∙ ap (λ (x : WindowDone). withWindowOf (rnicAt w) (a .domain) (a .slot) (x .window)) e)
+    let x = c .before .before .before .before .before .before .before .register-in in
+    let stored = window-changed (a .words .now) v (a .domain) (h .0) (search needs) (a .slot) (h .1) (x .result .window) (c .store-window .ensures .0) (c .store-window .ensures .1) in
+    register-done (a .words .now) (a .domain) (a .slot) (h .0) (h .1) (a .key) (a .base) (a .len) (a .place) (a .rights) (x .result)
+    (x .ensures ∙ (λ i. registeredIn (c .before .before .before .before .before .before .before .before .before .before .before .load-window .ensures i) (c .before .before .before .before .before .before .before .before .load-part .ensures i) (a .key) (a .base) (a .len) (a .place) (a .rights))) v
+    (c .before .before .before .before .before .enum-told .given .1) (sym (c .before .before .before .write-shares .ensures) ∙ c .before .before .if1 .left) stored
 
 pub register-slot-spec : {M : Type 1} → statement M
 register-slot-spec =
@@ -43,5 +64,10 @@ register-slot-spec =
     load-window-requires
     load-part-requires
     register-in-requires
+    enum-told
+    enum-known-outcome
+    returns
+    write-shares-requires
+    returns-2
     store-window-requires
-    returns)
+    returns-3)
