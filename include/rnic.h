@@ -35,9 +35,11 @@ struct rnic {
 
 /* The most bytes of stack that each function takes, with its return address and the arguments that go by the stack: measured
  * over random calls of every kind, of the library as the kit compiles it for x86-64. */
-#define RNIC_C_CALL_STACK 4096
-#define RNIC_C_RECEIVE_STACK 4096
-#define RNIC_C_CRC32C_STACK 2048
+#define RNIC_C_CALL_STACK 12288
+#define RNIC_C_RECEIVE_STACK 12288
+#define RNIC_C_CRC32C_STACK 12288
+#define RNIC_C_CRC32C_UPDATE_STACK 12288
+#define RNIC_C_CRC32C_JOIN_STACK 1024
 
 /* How many numbers a call takes, and how many words its answer has. */
 #define RNIC_C_ARGUMENTS 9
@@ -85,6 +87,13 @@ void rnic_c_receive(struct rnic *device, uint8_t *store, size_t store_length, ui
 
 /* The CRC-32C of bytes. A frame has it after its pad, the least significant byte first. */
 uint32_t rnic_c_crc32c(const uint8_t *bytes, size_t bytes_length);
+
+/* The same in pieces. A running value starts as 0xFFFFFFFF, is carried on over each piece in turn, and is inverted (~) at the
+ * end: that is the CRC-32C of all the pieces. To go on from a CRC, start with its inverse. */
+uint32_t rnic_c_crc32c_update(uint32_t running, const uint8_t *bytes, size_t bytes_length);
+
+/* The CRC-32C of two pieces together, from the CRC-32C of each, the first's first, and the second's length in bytes. */
+uint32_t rnic_c_crc32c_join(uint32_t first, uint32_t second, uint32_t second_length);
 
 #ifdef __cplusplus
 }

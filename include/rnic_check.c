@@ -92,6 +92,27 @@ static void check_write(void) {
     expect("receive of a bad version", answer, RNIC_ENDED, 23, 1);
 }
 
+/* The check value, whole, and cut at each place: carried on, and joined. */
+static void check_crc(void) {
+    const uint8_t *bytes = (const uint8_t *)"123456789";
+    if (rnic_c_crc32c(bytes, 9) != 0xE3069283) {
+        puts("crc32c: not the check value");
+        wrong = 1;
+    }
+    for (size_t cut = 0; cut <= 9; ++cut) {
+        uint32_t running = rnic_c_crc32c_update(0xFFFFFFFF, bytes, cut);
+        uint32_t first = rnic_c_crc32c(bytes, cut), second = rnic_c_crc32c(bytes + cut, 9 - cut);
+        if (~rnic_c_crc32c_update(running, bytes + cut, 9 - cut) != 0xE3069283) {
+            printf("crc32c_update: not the check value, cut at %zu\n", cut);
+            wrong = 1;
+        }
+        if (rnic_c_crc32c_join(first, second, (uint32_t)(9 - cut)) != 0xE3069283) {
+            printf("crc32c_join: not the check value, cut at %zu\n", cut);
+            wrong = 1;
+        }
+    }
+}
+
 int main(void) {
     uint64_t a[RNIC_C_ARGUMENTS] = {STORE, 0, 1024, 1024, 2048, 2048, 3072, 3072, STORE}, answer[RNIC_C_WORDS];
     check_words();
@@ -112,10 +133,7 @@ int main(void) {
     check_write();
     call("drop_window", RNIC_DROP_WINDOW, 0, 0, 0, 0, 0, 0, RNIC_DONE, 0, 0);
     call("close_stream", RNIC_CLOSE_STREAM, 0, 0, 0, 0, 0, 0, RNIC_CLOSED, 1, 0);
-    if (rnic_c_crc32c((const uint8_t *)"123456789", 9) != 0xE3069283) {
-        puts("crc32c: not the check value");
-        wrong = 1;
-    }
+    check_crc();
     call("no call", 10, 0, 0, 0, 0, 0, 0, RNIC_REFUSED, 1, 0);
     if (!wrong) {
         puts("ok");

@@ -34,7 +34,7 @@ pub fn write() {
 fn aim(scene: Scene) -> Aim {
     Aim(match (scene.kind, scene.payload, scene.crc) {
         (Kind::Write, 64 | 2034, false) => Some(1.1),
-        (Kind::Write, 2034, true) => Some(1.2),
+        (Kind::Write, 2034, true) => Some(1.0 / 3.0),
         (Kind::Send, 64, false) => Some(2.0),
         _ => None,
     })

@@ -35,18 +35,29 @@ pub fn eight(ours: &Times, eight: Option<&Times>) -> [String; 2] {
 }
 
 /// What stands where a row has no value.
-const NONE: &str = "–";
+pub const NONE: &str = "–";
 
-/// An aim: ours at most so many times the second program, where there is one.
+/// An aim, where there is one: ours at most so many times the second program or, of a rate, at least so many times.
 #[derive(Clone, Copy, Debug)]
 pub struct Aim(pub Option<f64>);
 
 impl Aim {
+    /// Gives the cells of the aim, and of whether a rate is at least that.
+    pub fn at_least(self, rate: f64) -> [String; 2] {
+        let [aim, _] = self.cells(rate);
+        let met = match self.0 {
+            Some(least) if rate >= least => "yes",
+            Some(_) => "no",
+            None => NONE,
+        };
+        [aim, String::from(met)]
+    }
+
     /// Gives the cells of the aim, and of whether a ratio meets it.
     pub fn cells(self, ratio: f64) -> [String; 2] {
         match self.0 {
-            Some(aim) if ratio <= aim => [format!("{aim:.1}"), String::from("yes")],
-            Some(aim) => [format!("{aim:.1}"), String::from("no")],
+            Some(aim) if ratio <= aim => [format!("{aim:.2}"), String::from("yes")],
+            Some(aim) => [format!("{aim:.2}"), String::from("no")],
             None => [NONE, NONE].map(String::from),
         }
     }

@@ -175,3 +175,16 @@ pub fn crc32c(bytes: &[u8]) -> u32 {
     // SAFETY: the pointer and the length are those of a slice that is held for the call.
     unsafe { raw::rnic_c_crc32c(bytes.as_ptr(), bytes.len()) }
 }
+
+/// Carries a running value of the CRC-32C on over a piece more. It starts as all ones, `!0`, and its inverse is the CRC
+/// of the pieces so far: to go on from a CRC, start with its inverse.
+pub fn crc32c_update(running: u32, bytes: &[u8]) -> u32 {
+    // SAFETY: the pointer and the length are those of a slice that is held for the call.
+    unsafe { raw::rnic_c_crc32c_update(running, bytes.as_ptr(), bytes.len()) }
+}
+
+/// Gives the CRC-32C of two pieces together, from the CRC-32C of each and the second's length in bytes.
+pub fn crc32c_join(first: u32, second: u32, second_length: u32) -> u32 {
+    // SAFETY: the function takes numbers alone.
+    unsafe { raw::rnic_c_crc32c_join(first, second, second_length) }
+}

@@ -33,4 +33,4 @@ pub mod raw;
 mod words;
 
 pub use answer::{Closed, Error, Event, Fault, ReadRequest, Received};
-pub use device::{crc32c, Device, Window, RIGHT_READ, RIGHT_WRITE};
+pub use device::{crc32c, crc32c_join, crc32c_update, Device, Window, RIGHT_READ, RIGHT_WRITE};

@@ -87,4 +87,16 @@ extern "C" {
     /// # Safety
     /// `bytes` points at `bytes_len` bytes; a length of 0 needs a pointer that is not null.
     pub fn rnic_c_crc32c(bytes: *const u8, bytes_len: usize) -> u32;
+
+    /// Carries a running value of the CRC-32C on over some bytes.
+    ///
+    /// # Safety
+    /// As for `rnic_c_crc32c`.
+    pub fn rnic_c_crc32c_update(running: u32, bytes: *const u8, bytes_len: usize) -> u32;
+
+    /// Gives the CRC-32C of two pieces together, from theirs and the second's length.
+    ///
+    /// # Safety
+    /// It takes numbers alone: any will do.
+    pub fn rnic_c_crc32c_join(first: u32, second: u32, second_len: u32) -> u32;
 }

@@ -3,7 +3,7 @@
 use crate::hex;
 use crate::startup::Role;
 use crate::state::{Part, DOMAINS};
-use crate::words::{bit, number, on_off, parts, role};
+use crate::words::{bit, crc, number, on_off, parts, role};
 
 /// The longest line, its newline not counted.
 pub const MAX_LINE: usize = 65_536;
@@ -77,6 +77,15 @@ pub enum Command {
         role: Role,
         bytes: Vec<u8>,
     },
+    Crc {
+        before: Option<u32>,
+        bytes: Vec<u8>,
+    },
+    Join {
+        first: u32,
+        second: u32,
+        length: u32,
+    },
 }
 
 /// Reads one line without its newline.
@@ -97,6 +106,7 @@ pub fn parse(line: &[u8]) -> Line {
     device_command(&words)
         .or_else(|| store_command(&words))
         .or_else(|| frame_command(&words))
+        .or_else(|| crc_command(&words))
         .map_or(Line::Bad, Line::Command)
 }
 
@@ -179,6 +189,26 @@ fn frame_command(words: &[&[u8]]) -> Option<Command> {
         [b"unstartup", role_word, bytes] => Command::Unstartup {
             role: role(role_word)?,
             bytes: hex::decode(bytes)?,
+        },
+        _ => return None,
+    })
+}
+
+/// Reads the commands on CRCs.
+fn crc_command(words: &[&[u8]]) -> Option<Command> {
+    Some(match *words {
+        [b"crc", bytes] => Command::Crc {
+            before: None,
+            bytes: hex::decode(bytes)?,
+        },
+        [b"crc", before, bytes] => Command::Crc {
+            before: Some(crc(before)?),
+            bytes: hex::decode(bytes)?,
+        },
+        [b"join", first, second, length] => Command::Join {
+            first: crc(first)?,
+            second: crc(second)?,
+            length: number(length)?.try_into().ok()?,
         },
         _ => return None,
     })

@@ -16,7 +16,7 @@ const fn shift_bit(remainder: u32) -> u32 {
 }
 
 /// Moves the remainder on by the eight bits that it holds lowest.
-const fn shift_byte(mut remainder: u32) -> u32 {
+pub(crate) const fn shift_byte(mut remainder: u32) -> u32 {
     let mut bit = 0;
     while bit < 8 {
         remainder = shift_bit(remainder);

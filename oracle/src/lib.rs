@@ -1,8 +1,8 @@
 //! An RDMA receiver (MPA, DDP, RDMAP) written as a plain state machine, driven by replay scripts.
 //!
-//! The wire forms (`crc`, `mpa`, `startup`, `ddp`, `rdmap`) know nothing of the state. Read `state` first, then `device`
-//! for the calls, with `sharing`, and `receive`, whose rules stand in `judge` and `target`. `script` runs the lines that
-//! `command` takes apart; `generate` writes random ones.
+//! The wire forms (`crc`, `pieces`, `mpa`, `startup`, `ddp`, `rdmap`) know nothing of the state. Read `state` first, then
+//! `device` for the calls, with `sharing`, and `receive`, whose rules stand in `judge` and `target`. `script` runs the lines
+//! that `command` takes apart; `generate` writes random ones.
 
 pub mod bigendian;
 pub mod command;
@@ -14,6 +14,7 @@ pub mod generate;
 pub mod hex;
 mod judge;
 pub mod mpa;
+pub mod pieces;
 pub mod rdmap;
 pub mod receive;
 pub mod refusal;

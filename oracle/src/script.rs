@@ -3,12 +3,14 @@
 use std::io::{self, BufRead, Write};
 
 use crate::command::{parse, Command, Line};
+use crate::crc::crc32c_bitwise;
 use crate::hex;
 use crate::mpa::{read_fpdu, write_fpdu, Frame};
+use crate::pieces::{carry_on, join};
 use crate::refusal::Refusal;
 use crate::startup::{read_startup, write_startup, Startup};
 use crate::state::Device;
-use crate::text::{answer_text, bad, done, read_text, refused};
+use crate::text::{answer_text, bad, crc_text, done, read_text, refused};
 
 /// Bytes of the program's store.
 pub const STORE: usize = 1_048_576;
@@ -157,6 +159,19 @@ fn frame(command: Command) -> Result<String, Refusal> {
             ),
             Startup::Refused(refusal) => refused(refusal),
         },
+        Command::Crc {
+            before: None,
+            bytes,
+        } => crc_text(crc32c_bitwise(&bytes)),
+        Command::Crc {
+            before: Some(crc),
+            bytes,
+        } => crc_text(carry_on(crc, &bytes)),
+        Command::Join {
+            first,
+            second,
+            length,
+        } => crc_text(join(first, second, length)),
         _ => bad(),
     })
 }

@@ -60,3 +60,8 @@ pub fn read_text(read: ReadRequest) -> String {
     } = read;
     format!("read {sink_stag} {sink_to} {size} {source_stag} {source_to}")
 }
+
+/// Writes a CRC.
+pub fn crc_text(crc: u32) -> String {
+    format!("crc {crc:08x}")
+}

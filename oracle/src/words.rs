@@ -1,5 +1,6 @@
 //! The words of a line: numbers, switches and roles.
 
+use crate::hex;
 use crate::startup::Role;
 use crate::state::{Part, DOMAINS};
 
@@ -51,4 +52,10 @@ pub fn role(word: &[u8]) -> Option<Role> {
         b"rep" => Some(Role::Reply),
         _ => None,
     }
+}
+
+/// Reads a CRC: eight hex digits, the number's own.
+pub fn crc(word: &[u8]) -> Option<u32> {
+    let bytes = hex::decode(word)?.try_into().ok()?;
+    Some(u32::from_be_bytes(bytes))
 }

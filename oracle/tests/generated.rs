@@ -47,6 +47,8 @@ fn frames_reach_every_answer() {
             "unstartup",
             &["startup", "wait", "refused 14", "refused 15"],
         ),
+        ("crc", &["crc"]),
+        ("join", &["crc"]),
         ("-", &["bad"]),
     ] {
         for kind in kinds {

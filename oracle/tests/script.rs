@@ -245,3 +245,21 @@ fn frames() {
         ),
     ]);
 }
+
+#[test]
+fn crcs() {
+    check(&[
+        ("crc 313233343536373839", "crc e3069283"),
+        ("crc -", "crc 00000000"),
+        ("crc 31323334", "crc f63af4ee"),
+        ("crc 3536373839", "crc 83b565d8"),
+        ("crc f63af4ee 3536373839", "crc e3069283"),
+        ("crc F63AF4EE -", "crc f63af4ee"),
+        ("join F63AF4EE 83b565d8 5", "crc e3069283"),
+        ("join f63af4ee 83b565d8 4294967296", "bad"),
+        ("join f63af4ee 83b565d 5", "bad"),
+        ("join f63af4ee 083b565d8 5", "bad"),
+        ("crc - 31", "bad"),
+        ("crc 00000000 31 -", "bad"),
+    ]);
+}

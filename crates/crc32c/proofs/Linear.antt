@@ -1,4 +1,4 @@
--- The steps of the CRC are linear in exclusive or, so that a byte's eight bits come from a table.
+-- The steps of the CRC are linear in exclusive or, so that the bits of a number come from those of its parts.
 -- Assumes nothing.
 use mathlib.Core.Bool.{cond}
 use mathlib.Core.Path.{_≡_, refl, sym, ap, ap₂, _∙_, subst}
@@ -6,8 +6,8 @@ use Prim.Native.Nat.{ℕ, zero, suc, _+_, _-_, _*_, _/_, _%_, _^_, _<_}
 use native.Mathlib.Nat.{pow-suc}
 use native.Mathlib.Omega.{arith}
 use lib.Dec.{eqb, lit<}
-use lib.Bits.{differ, bitXor, xor-zero-l, xor-zero-r, xor-self, xor-comm, xor-lt, xor-shifted, shifted-half, shifted-even}
-use Rattle.crc32c.specs.Crc.{xor32, poly, crcBit, crcBits, crcByte}
+use lib.Bits.{differ, bitXor, xor-zero-l, xor-zero-r, xor-self, xor-lt, shifted-half, shifted-even}
+use Rattle.crc32c.specs.Crc.{xor32, poly, crcBit, crcBits}
 use Rattle.crc32c.proofs.Xor.{xor-odd, xor-half, xor-medial, xor32-is}
 
 -- the polynomial, or nothing, by the bit that falls out
@@ -62,22 +62,3 @@ bits-shift (suc n) h l =
     ∙ ap₂ bitXor (shifted-half h n) (ap taken (shifted-even h n))
     ∙ xor-zero-r (h * 2 ^ n))
     ∙ bits-shift n h (omega (arith, l, shifted-half h n))
-
--- eight bits of a number are those of its lowest byte, over the number without that byte
-pub bits-split : (x : ℕ) → x < 2 ^ 32 → crcBits 8 x ≡ bitXor (crcBits 8 (x % 256)) (x / 256)
-bits-split x h =
-    ap (crcBits 8) (sym (xor-shifted (x / 256) 8 (x % 256) (omega arith) ∙ omega arith))
-    ∙ bits-linear 8 (x / 256 * 2 ^ 8) (x % 256) (omega arith) (omega arith)
-    ∙ ap (λ (n : ℕ). bitXor n (crcBits 8 (x % 256))) (bits-shift 8 (x / 256) (omega arith))
-    ∙ xor-comm (x / 256) (crcBits 8 (x % 256))
-
--- a byte taken in, by the machine's exclusive or
-pub byte-is : (c b : ℕ) → c < 2 ^ 32 → b < 256 → crcByte c b ≡ bitXor (crcBits 8 (bitXor c b % 256)) (bitXor c b / 256)
-unfolding crcByte
-byte-is c b hc hb = ap (crcBits 8) (xor32-is c b hc (omega arith)) ∙ bits-split (bitXor c b) (xor-lt 32 c b hc (omega arith))
-
-pub byte-lt : (c b : ℕ) → c < 2 ^ 32 → b < 256 → crcByte c b < 2 ^ 32
-unfolding crcByte
-byte-lt c b hc hb =
-    subst (λ (n : ℕ). crcBits 8 n < 2 ^ 32) (sym (xor32-is c b hc (omega arith)))
-    (bits-lt 8 (bitXor c b) (xor-lt 32 c b hc (omega arith)))

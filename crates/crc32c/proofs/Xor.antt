@@ -24,6 +24,19 @@ differ-assoc (suc zero) (suc zero) (suc (suc z)) hx hy hz = absurd (omega arith)
 differ-assoc (suc zero) (suc (suc y)) z hx hy hz = absurd (omega arith)
 differ-assoc (suc (suc x)) y z hx hy hz = absurd (omega arith)
 
+-- the last two change places
+pub differ-swap : (x y z : ℕ) → x < 2 → y < 2 → z < 2 → differ (differ x y) z ≡ differ (differ x z) y
+differ-swap x y z hx hy hz = differ-assoc x y z hx hy hz ∙ ap (differ x) (differ-comm y z hy hz) ∙ sym (differ-assoc x z y hx hz hy)
+  where
+    differ-comm : (m n : ℕ) → m < 2 → n < 2 → differ m n ≡ differ n m
+    differ-comm zero zero hm hn = refl
+    differ-comm zero (suc zero) hm hn = refl
+    differ-comm (suc zero) zero hm hn = refl
+    differ-comm (suc zero) (suc zero) hm hn = refl
+    differ-comm zero (suc (suc n)) hm hn = absurd (omega arith)
+    differ-comm (suc zero) (suc (suc n)) hm hn = absurd (omega arith)
+    differ-comm (suc (suc m)) n hm hn = absurd (omega arith)
+
 -- the lowest bit, and the bits above it
 pub xor-odd : (a b : ℕ) → bitXor a b % 2 ≡ differ (a % 2) (b % 2)
 xor-odd a b = omega (arith, xor-step a b, differ-lt (a % 2) (b % 2) (omega arith) (omega arith))

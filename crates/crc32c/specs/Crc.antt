@@ -1,10 +1,8 @@
 -- CRC-32C, bit by bit, as a fold over a running value.
-use mathlib.Core.Path.{_≡_}
-use Prim.Native.Nat.{ℕ, zero, suc, _+_, _-_, _*_, _/_, _%_, _^_, _<_}
+use Prim.Native.Nat.{ℕ, zero, suc, _+_, _-_, _*_, _/_, _%_, _^_}
 use mathlib.Core.Bool.{cond}
 use mathlib.Core.List.{List, [], _∷_}
 use lib.Dec.{eqb}
-use lib.ListN.{getD}
 use lib.Bits.{differ}
 
 -- exclusive or over the k lowest bits, one bit a step
@@ -48,7 +46,3 @@ allOnes = 0xFFFFFFFF
 
 unfoldable pub crcOf : List ℕ → ℕ
 crcOf bs = allOnes - crcRun allOnes bs
-
--- a table of what eight bits make of each byte
-unfoldable pub Table : List ℕ → Type 0
-Table t = (k : ℕ) → k < 256 → getD t k 0 ≡ crcBits 8 k

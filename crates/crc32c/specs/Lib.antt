@@ -1,1 +1,3 @@
 pub mod Crc
+pub mod Tables
+pub mod Shift

@@ -3,3 +3,4 @@ pub mod Length
 pub mod ReadBack
 pub mod Startups
 pub mod Taken
+pub mod Apart

@@ -4,7 +4,9 @@ use crate::refusal::NO_ROOM;
 use crate::refusal::OVER_LIMIT;
 use crate::refusal::ULPDU_OVER_LIMIT;
 use crate::refusal::WRONG_CRC;
+use crc32c::ALL_ONES;
 use crc32c::crc32c;
+use crc32c::update;
 use wire::Written;
 use wire::copy::clear;
 use wire::copy::copy;
@@ -15,6 +17,7 @@ use wire::number::put_le32;
 ghost use mathlib.Core.Path.{_≡_};
 ghost use Prim.Native.Nat.{_+_, _^_, _≤_, _<_};
 ghost use lib.ListN.{length};
+ghost use Rattle.crc32c.specs.Crc.{crcOf};
 ghost use Rattle.wire.specs.Wire.{put};
 ghost use Rattle.mpa.specs.Fpdu.{padOf, coveredOf, totalOf, covered, fpduOf, fpduWritten, fpduOut, crcRight, fpduReadOf, fpduRead};
 
@@ -57,14 +60,25 @@ fn write_covered(ulpdu: &[u8], out: &mut [u8])
     clear(out, 2 + n, pad);
 }
 
+// The CRC of length, n bytes of ULPDU and pad, carried on from each to the next.
+fn crc_of(bytes: &[u8], n: usize) -> u32
+    requires { ⌜ 2 + n ≤ length (now bytes) ⌝ }
+    ensures { λ r. ⌜ r ≡ crcOf (now (bytes .entry)) ⌝ }
+{
+    let head = update(ALL_ONES, &bytes[..2]);
+    let ulpdu = update(head, &bytes[2..2 + n]);
+    ALL_ONES - update(ulpdu, &bytes[2 + n..])
+}
+
 // Writes the FPDU of a ULPDU to the start of out.
 fn write_whole(ulpdu: &[u8], out: &mut [u8])
     requires { ⌜ (length (now ulpdu) < 65536) × (totalOf (length (now ulpdu)) ≤ length (now out)) ⌝ }
     ensures { λ _. ⌜ now (out .exit) ≡ put (now (out .entry)) 0 (fpduOf (now (ulpdu .entry))) ⌝ }
 {
-    let c = covered_length(ulpdu.len());
+    let n = ulpdu.len();
+    let c = covered_length(n);
     write_covered(ulpdu, out);
-    let crc = crc32c(&out[..c]);
+    let crc = crc_of(&out[..c], n);
     put_le32(out, c, crc);
 }
 

@@ -20,6 +20,7 @@ use Rattle.command.specs.declared.args.Flag.{Flag}
 use Rattle.command.specs.declared.args.Numbers.{Numbers}
 use Rattle.command.specs.declared.args.Words.{Words}
 use Rattle.command.proofs.Read.{counted, other-count, pairs-decoded, front-decoded}
+use Rattle.sums.specs.Sums.{isSum}
 use Rattle.request.specs.Request.{Request, shapeOf, keptAfter, numbersCall, askNumbers, nine, streamCall, askStream, atMost, lentOf, receiveCall, askReceive, filled, askFill, bytesName, fillName, receiveName, streamName, askCall, askDevice, isSilent, requestOf, answeredBy, callBy, askedOf, inputOf, storeAfter, Says, SaysCall}
 use Rattle.request.specs.Request.Request.{call, fill, text}
 use Rattle.request.specs.declared.Asked.{Asked}
@@ -318,6 +319,12 @@ module _ (kept room size : ℕ) (line : List ℕ) where
   unfolding requestOf
   frame-text e f = rw (e, f)
 
-  pub device-line : isSilent line ≡ false → isFrame (wordOf (lineWords line) 0) ≡ false → askDevice kept room size (lineWords line) ≡ requestOf kept room size line
+  pub sum-text : isSilent line ≡ false → isFrame (wordOf (lineWords line) 0) ≡ false → isSum (wordOf (lineWords line) 0) ≡ true → text ≡ requestOf kept room size line
   unfolding requestOf
-  device-line e f = rw (e, f)
+  sum-text e f g = rw (e, f, g)
+
+  pub device-line :
+      isSilent line ≡ false → isFrame (wordOf (lineWords line) 0) ≡ false → isSum (wordOf (lineWords line) 0) ≡ false
+      → askDevice kept room size (lineWords line) ≡ requestOf kept room size line
+  unfolding requestOf
+  device-line e f g = rw (e, f, g)

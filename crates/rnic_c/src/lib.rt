@@ -9,7 +9,8 @@ ghost use lib.ListN.{length};
 ghost use Rattle.calls.specs.Call.{called, calledStore, calledReceive};
 ghost use Rattle.rnic.specs.Rnic.{rnicReceivedStore};
 ghost use Rattle.block.specs.Device.{rnicAt};
-ghost use Rattle.crc32c.specs.Crc.{crcOf};
+ghost use Rattle.crc32c.specs.Crc.{crcRun, crcOf};
+ghost use Rattle.crc32c.specs.Shift.{joined};
 use calls::words::answer_words;
 use calls::words::close_words;
 use calls::words::count_words;
@@ -103,4 +104,21 @@ pub extern "C" fn rnic_c_crc32c(bytes: &[u8]) -> u32
     ensures { λ r. ⌜ r ≡ crcOf (now (bytes .entry)) ⌝ }
 {
     crc32c::crc32c(bytes)
+}
+
+// The same in pieces: a running value carried on over a piece more. It starts at all ones, and the CRC
+// is its inverse.
+#[no_mangle]
+pub extern "C" fn rnic_c_crc32c_update(running: u32, bytes: &[u8]) -> u32
+    ensures { λ r. ⌜ r ≡ crcRun running (now (bytes .entry)) ⌝ }
+{
+    crc32c::update(running, bytes)
+}
+
+// The CRC-32C of two pieces together, from the CRC of each and the second's length.
+#[no_mangle]
+pub extern "C" fn rnic_c_crc32c_join(first: u32, second: u32, len: u32) -> u32
+    ensures { λ r. ⌜ r ≡ joined first second len ⌝ }
+{
+    crc32c::shift::join(first, second, len)
 }

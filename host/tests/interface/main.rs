@@ -1,7 +1,8 @@
-//! The C interface as a Rust program sees it: its layout, its calls, the stored scripts, and random
+//! The C interface as a Rust program sees it: its layout, its calls, its CRC, the stored scripts, and random
 //! nights beside the second program.
 
 mod calls;
+mod crc;
 mod header;
 mod inputs;
 mod layout;

@@ -4,7 +4,8 @@
 
 use std::collections::BTreeMap;
 
-use host::raw::{call, kind, rnic_c_call, rnic_c_crc32c, rnic_c_receive, Rnic, Words};
+use host::raw::{call, kind, rnic_c_call, rnic_c_receive, Rnic, Words};
+use host::raw::{rnic_c_crc32c, rnic_c_crc32c_join, rnic_c_crc32c_update};
 use oracle::command::Command;
 
 use crate::header::{defined, header};
@@ -127,6 +128,30 @@ fn crc_depth() -> usize {
     [0, 1, 63, 4096].map(depth).into_iter().fold(0, usize::max)
 }
 
+/// Gives the most bytes of stack that the CRC in pieces takes.
+fn update_depth() -> usize {
+    let bytes = [7; 4096];
+    let mut stack = Painted::new();
+    let depth = |length: usize| {
+        let words = [7, bytes.as_ptr() as usize, length, 0, 0, 0, 0, 0];
+        // SAFETY: the arguments are a number, a pointer and a length within the bytes.
+        unsafe { stack.call(rnic_c_crc32c_update as *const (), words) }
+    };
+    [0, 1, 63, 4096].map(depth).into_iter().fold(0, usize::max)
+}
+
+/// Gives the most bytes of stack that joined CRCs take.
+fn join_depth() -> usize {
+    let mut stack = Painted::new();
+    let depth = |length: u32| {
+        let words = [7, 9, length as usize, 0, 0, 0, 0, 0];
+        // SAFETY: the arguments are numbers.
+        unsafe { stack.call(rnic_c_crc32c_join as *const (), words) }
+    };
+    let lengths = [0, 1, 2, 1 << 31, u32::MAX - 1, u32::MAX];
+    lengths.map(depth).into_iter().fold(0, usize::max)
+}
+
 #[test]
 fn stack_of_the_entries() {
     let columns = [false, true].map(depths);
@@ -142,6 +167,8 @@ fn stack_of_the_entries() {
         println!("| {name} | {} | {} |", of(0), of(1));
     }
     println!("\nrnic_c_crc32c: {}", crc_depth());
+    println!("rnic_c_crc32c_update: {}", update_depth());
+    println!("rnic_c_crc32c_join: {}", join_depth());
     assert_eq!(columns[0].len(), 27, "every call and answer is met");
     let receives = columns[1]
         .iter()
@@ -153,6 +180,8 @@ fn stack_of_the_entries() {
             receives.map(|(_, depth)| *depth).max(),
         ),
         ("RNIC_C_CRC32C_STACK", Some(crc_depth())),
+        ("RNIC_C_CRC32C_UPDATE_STACK", Some(update_depth())),
+        ("RNIC_C_CRC32C_JOIN_STACK", Some(join_depth())),
     ];
     for (name, depth) in most {
         let stated = defined(&header(), name);

@@ -9,8 +9,8 @@ use oracle::script::STORE;
 
 use crate::support::Program;
 
-/// Says whether a line is of a kind that needs no device, which the C interface does not have.
-fn is_of_frames(line: &[u8]) -> bool {
+/// Says whether a line is of a kind that needs no device: on frames, which the C interface does not have, or on CRCs.
+fn needs_no_device(line: &[u8]) -> bool {
     matches!(
         parse(line),
         Line::Command(
@@ -18,6 +18,8 @@ fn is_of_frames(line: &[u8]) -> bool {
                 | Command::Unframe { .. }
                 | Command::Startup { .. }
                 | Command::Unstartup { .. }
+                | Command::Crc { .. }
+                | Command::Join { .. }
         )
     )
 }
@@ -30,7 +32,7 @@ fn compare(script: &Path) -> usize {
     let mut program = Program::new(Device::new(), STORE);
     let mut compared = 0;
     for line in text.split(|&byte| byte == b'\n') {
-        if is_of_frames(line) {
+        if needs_no_device(line) {
             answers.next().expect("an answer to each command");
         } else if let Some(answer) = program.run_line(line) {
             let line = String::from_utf8_lossy(line);

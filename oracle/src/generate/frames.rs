@@ -1,8 +1,9 @@
-//! Scripts of the stateless commands: frames written and read, whole and damaged.
+//! Scripts of the stateless commands: frames written and read, whole and damaged, and CRCs.
 
 use std::io::{self, Write};
 
 use super::malformed::{long_line, malform};
+use super::pieces::crc_line;
 use super::prng::Prng;
 use super::startups::{startup, unstartup};
 use crate::crc::crc_field;
@@ -24,10 +25,11 @@ pub fn line(prng: &mut Prng) -> Vec<u8> {
     let short = prng.percent(12);
     let command = match prng.below(100) {
         0..=1 => format!("# {}", prng.draw()),
-        2..=27 => fpdu(prng, short),
-        28..=61 => unframe(prng, short),
-        62..=77 => startup(prng, short),
-        _ => unstartup(prng, short),
+        2..=23 => fpdu(prng, short),
+        24..=52 => unframe(prng, short),
+        53..=66 => startup(prng, short),
+        67..=85 => unstartup(prng, short),
+        _ => crc_line(prng, short),
     };
     let command = command.into_bytes();
     match (short, prng.below(150)) {

@@ -17,10 +17,11 @@ pub fn malform(prng: &mut Prng, line: &[u8]) -> Vec<u8> {
 /// Gives a line at or near the limit of length.
 pub fn long_line(prng: &mut Prng, line: &[u8]) -> Vec<u8> {
     let length = MAX_LINE + prng.pick(&[0, 0, 0, 1, 1, 2, 100]);
-    match prng.below(4) {
+    match prng.below(5) {
         0 => filled(b"#".to_vec(), b'#', length),
         1 => filled(b"unframe off ".to_vec(), b'0', length),
         2 => filled(b"fpdu ".to_vec(), b'a', length),
+        3 => filled(b"crc ".to_vec(), b'5', length),
         _ => filled(line.to_vec(), b' ', length),
     }
 }
@@ -133,6 +134,13 @@ fn other_line(prng: &mut Prng) -> Vec<u8> {
         b"unframe ON 0000",
         b"unframe on off 0000",
         b"fpdu - -",
+        b"crc",
+        b"crc - -",
+        b"crc 00000000 - -",
+        b"join",
+        b"join 00000000 00000000",
+        b"join 00000000 00000000 -",
+        b"join 00000000 00000000 0 0",
         b"-",
         b"\xFF\xFE",
     ]);

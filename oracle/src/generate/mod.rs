@@ -8,6 +8,7 @@ pub mod interleave;
 pub mod malformed;
 pub mod nights;
 mod openings;
+mod pieces;
 mod places;
 pub mod prng;
 mod receiving;

@@ -1,4 +1,4 @@
--- `ask` meets its contract: a line that is silent, a command on frames, or what `ask_device` says of its words.
+-- `ask` meets its contract: a line that is silent, a command on frames or on CRCs, or what `ask_device` says of its words.
 use mathlib.Core.Path.{_≡_, refl, sym, ap, subst, _∙_}
 use native.Mathlib.Omega.{arith}
 use borrow.Author.Needs.{needs}
@@ -7,9 +7,10 @@ use Rattle.command.specs.Args.{wordOf}
 use Rattle.command.specs.Frames.{isFrame}
 use Rattle.command.proofs.Listed.{words-count}
 use Rattle.command.proofs.Read.{read-as}
+use Rattle.sums.specs.Sums.{isSum}
 use Rattle.request.specs.Request.{Request, Says, askDevice}
 use Rattle.request.specs.declared.Asked.{Asked}
-use Rattle.request.proofs.Asking.{true-false, says-no-more, comment-text, empty-text, not-silent, frame-text, device-line}
+use Rattle.request.proofs.Asking.{true-false, says-no-more, comment-text, empty-text, not-silent, frame-text, sum-text, device-line}
 use Rattle.request.proofs.ask.Statement.{statement}
 use Rattle.request.proofs.ask.Tie as tie
 
@@ -86,8 +87,17 @@ returns-3 c =
       ),
     )
 
-ask-device-requires : tie.Need-ask-device-requires
-ask-device-requires c κs = search needs
+word-requires-2 : tie.Need-word-requires-2
+word-requires-2 c κs = search needs
+
+is-sum-requires : tie.Need-is-sum-requires
+is-sum-requires c κs = search needs
+
+run-requires-2 : tie.Need-run-requires-2
+run-requires-2 c κs = search needs
+
+answered-requires-4 : tie.Need-answered-requires-4
+answered-requires-4 c κs = search needs
 
 same-length-4 : tie.Need-same-length-4
 same-length-4 c = search needs
@@ -95,24 +105,50 @@ same-length-4 c = search needs
 same-length-5 : tie.Need-same-length-5
 same-length-5 c = search needs
 
+returns-4 : tie.Need-returns-4
+returns-4 c =
+    let a = c .before .before .before .before .before .before .before .before .before .before .before .before .before .before .before .before .before .before .before .before .before .before .before .before .args in
+    let e = c .before .before .before .before .before .before .before .before .before .before .before .before .before .before .before .before .split .ensures in
+    let quiet = not-silent (a .kept) (length (a .bytes .now)) (length (a .store .now)) (a .line .now) (sym (c .before .before .before .before .before .before .before .before .before .before .before .before .before .before .before .before .before .before .is-comment .ensures) ∙ c .before .before .before .before .before .before .before .before .before .before .before .before .before .before .before .before .before .if1 .left)
+    (λ z. c .before .before .before .before .before .before .before .before .before .before .before .before .before .before .if2 .left (sym (words-count (a .line .now) (c .before .before .before .before .before .before .before .before .before .before .before .before .before .before .before .before .split .result)) ∙ ap length e ∙ z)) in (
+      omega (arith, ap (λ (x : Asked). x .count) (c .answered4 .ensures), c .before .before .before .before .before .run2 .ensures),
+      (
+        (λ s. true-false (sym s ∙ quiet)),
+        says-no-more _ (sum-text (a .kept) (length (a .bytes .now)) (length (a .store .now)) (a .line .now) quiet
+            (read-as isFrame (c .before .before .before .before .before .before .before .before .before .before .before .before .before .word .ensures ∙ ap (λ l. wordOf l 0) e) (c .before .before .before .before .before .before .before .before .before .before .before .before .is-frame .ensures) (c .before .before .before .before .before .before .before .before .before .before .before .if3 .left))
+            (read-as isSum (c .before .before .before .before .before .before .before .before .before .before .word2 .ensures ∙ ap (λ l. wordOf l 0) e) (c .before .before .before .before .before .before .before .before .before .is-sum .ensures) (c .before .before .before .before .before .before .before .before .if4 .taken)))
+            (c .answered4 .result) (c .before .before .before .before .before .run2 .result) _ (a .store .now) (c .answered4 .ensures),
+      ),
+    )
+
+ask-device-requires : tie.Need-ask-device-requires
+ask-device-requires c κs = search needs
+
 same-length-6 : tie.Need-same-length-6
 same-length-6 c = search needs
 
-returns-4 : tie.Need-returns-4
-returns-4 c =
-    let a = c .before .before .before .before .before .before .before .before .before .before .before .before .before .before .before .before .before .before .before .before .before .before .before .args in
+same-length-7 : tie.Need-same-length-7
+same-length-7 c = search needs
+
+same-length-8 : tie.Need-same-length-8
+same-length-8 c = search needs
+
+returns-5 : tie.Need-returns-5
+returns-5 c =
+    let a = c .before .before .before .before .before .before .before .before .before .before .before .before .before .before .before .before .before .before .before .before .before .before .before .before .before .before .args in
     let room = length (a .bytes .now) in
     let size = length (a .store .now) in
-    let e = c .before .before .before .before .before .before .before .before .before .before .before .before .before .before .before .split .ensures in
-    let quiet = not-silent (a .kept) room size (a .line .now) (sym (c .before .before .before .before .before .before .before .before .before .before .before .before .before .before .before .before .before .is-comment .ensures) ∙ c .before .before .before .before .before .before .before .before .before .before .before .before .before .before .before .before .if1 .left)
-    (λ z. c .before .before .before .before .before .before .before .before .before .before .before .before .before .if2 .left (sym (words-count (a .line .now) (c .before .before .before .before .before .before .before .before .before .before .before .before .before .before .before .split .result)) ∙ ap length e ∙ z)) in
+    let e = c .before .before .before .before .before .before .before .before .before .before .before .before .before .before .before .before .before .before .split .ensures in
+    let quiet = not-silent (a .kept) room size (a .line .now) (sym (c .before .before .before .before .before .before .before .before .before .before .before .before .before .before .before .before .before .before .before .before .is-comment .ensures) ∙ c .before .before .before .before .before .before .before .before .before .before .before .before .before .before .before .before .before .before .before .if1 .left)
+    (λ z. c .before .before .before .before .before .before .before .before .before .before .before .before .before .before .before .before .if2 .left (sym (words-count (a .line .now) (c .before .before .before .before .before .before .before .before .before .before .before .before .before .before .before .before .before .before .split .result)) ∙ ap length e ∙ z)) in
     let r = c .before .before .before .before .before .before .ask-device in (
       omega (arith, r .ensures .0),
       (
         (λ s. true-false (sym s ∙ quiet)),
         subst (λ (q : Request). Says q (r .result) (r .last .1 .1 .1 .0) (a .store .now) (r .last .1 .1 .1 .1 .0))
             (ap (λ l. askDevice (a .kept) room size l) e ∙ device-line (a .kept) room size (a .line .now) quiet
-            (read-as isFrame (c .before .before .before .before .before .before .before .before .before .before .before .before .word .ensures ∙ ap (λ l. wordOf l 0) e) (c .before .before .before .before .before .before .before .before .before .before .before .is-frame .ensures) (c .before .before .before .before .before .before .before .before .before .before .if3 .left)))
+            (read-as isFrame (c .before .before .before .before .before .before .before .before .before .before .before .before .before .before .before .word .ensures ∙ ap (λ l. wordOf l 0) e) (c .before .before .before .before .before .before .before .before .before .before .before .before .before .before .is-frame .ensures) (c .before .before .before .before .before .before .before .before .before .before .before .before .before .if3 .left))
+            (read-as isSum (c .before .before .before .before .before .before .before .before .before .before .before .before .word2 .ensures ∙ ap (λ l. wordOf l 0) e) (c .before .before .before .before .before .before .before .before .before .before .before .is-sum .ensures) (c .before .before .before .before .before .before .before .before .before .before .if4 .left)))
             (r .ensures .1),
       ),
     )
@@ -135,8 +171,15 @@ ask-spec =
     same-length-2
     same-length-3
     returns-3
-    ask-device-requires
+    word-requires-2
+    is-sum-requires
+    run-requires-2
+    answered-requires-4
     same-length-4
     same-length-5
+    returns-4
+    ask-device-requires
     same-length-6
-    returns-4)
+    same-length-7
+    same-length-8
+    returns-5)

@@ -1,10 +1,10 @@
 -- `write_whole` meets its contract: the CRC is of what `write_covered` wrote, and stands where that ends.
-use Prim.Native.Nat.{ℕ}
+use Prim.Native.Nat.{ℕ, _+_, _≤_}
 use mathlib.Core.List.{List}
-use mathlib.Core.Path.{sym, ap, _∙_}
+use mathlib.Core.Path.{sym, ap, _∙_, subst}
 use native.Mathlib.Omega.{arith}
 use lib.Seq.{length-take-le}
-use lib.ListN.{take}
+use lib.ListN.{length, take}
 use borrow.Author.Needs.{needs}
 use Rattle.wire.specs.Wire.{put, le32}
 use Rattle.crc32c.specs.Crc.{crcOf}
@@ -18,14 +18,19 @@ covered-length-requires c κs = search needs
 write-covered-requires : tie.Need-write-covered-requires
 write-covered-requires c κs = search needs
 
-slice-reshare-prefix-crc32c : tie.Need-slice-reshare-prefix-crc32c
-slice-reshare-prefix-crc32c c = search needs
+slice-reshare-prefix-crc-of : tie.Need-slice-reshare-prefix-crc-of
+slice-reshare-prefix-crc-of c = search needs
 
-slice-aggregate-crc32c : tie.Need-slice-aggregate-crc32c
-slice-aggregate-crc32c c = sym (length-take-le (c .before .before .before .before .before .covered-length .result) (c .before .before .before .write-covered .last .1 .0) (omega arith))
+slice-aggregate-crc-of : tie.Need-slice-aggregate-crc-of
+slice-aggregate-crc-of c = sym (length-take-le (c .before .before .before .before .before .covered-length .result) (c .before .before .before .write-covered .last .1 .0) (omega arith))
 
-crc32c-requires : tie.Need-crc32c-requires
-crc32c-requires c κs = search needs
+crc-of-requires : tie.Need-crc-of-requires
+crc-of-requires c κs =
+    let k = c .before .before .before .before .before .covered-length .result in
+    let w = c .before .before .before .write-covered .last .1 .0 in
+    let n : ℕ = length (c .before .before .before .before .before .before .before .before .args .ulpdu .now) in
+    let h : 2 + n ≤ k = omega (arith, c .before .before .before .before .before .covered-length .ensures .0) in
+    subst (λ (m : ℕ). 2 + n ≤ m) (sym (length-take-le k w (omega arith))) h
 
 put-le32-requires : tie.Need-put-le32-requires
 put-le32-requires c κs = search needs
@@ -39,7 +44,7 @@ returns c =
     let k = c .before .before .before .before .before .before .before .before .before .before .covered-length .result in
     let w = c .before .before .before .before .before .before .before .before .write-covered .last .1 .0 in
     c .before .before .put-le32 .ensures
-    ∙ ap (λ (v : ℕ). put w k (le32 v)) (c .before .before .before .before .crc32c .ensures)
+    ∙ ap (λ (v : ℕ). put w k (le32 v)) (c .before .before .before .before .crc-of .ensures)
     ∙ ap (λ (z : List ℕ). put z k (le32 (crcOf (take k z)))) (c .before .before .before .before .before .before .before .before .write-covered .ensures)
     ∙ fpdu-put (a .out .now) (a .ulpdu .now) k (c .before .before .before .before .before .before .before .before .before .before .covered-length .ensures .0)
 
@@ -49,9 +54,9 @@ write-whole-spec =
     (tie.spec
     covered-length-requires
     write-covered-requires
-    slice-reshare-prefix-crc32c
-    slice-aggregate-crc32c
-    crc32c-requires
+    slice-reshare-prefix-crc-of
+    slice-aggregate-crc-of
+    crc-of-requires
     put-le32-requires
     same-length
     returns)
