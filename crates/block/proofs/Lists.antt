@@ -14,12 +14,9 @@ use Rattle.block.specs.Words.{sequence}
 pub set-put : (l : List ℕ) (i a : ℕ) → i < length l → set l i a ≡ put l i (a ∷ [])
 set-put l i a h = sets-eq (a ∷ []) l i (omega arith) ∙ append-assoc (take i l) (a ∷ []) (drop (i + 1) l)
 
--- a word that is read is the part of one word there, and a word that is stored is put there
+-- a word that is read is the part of one word there
 pub word-read : {A : Type 0} (decode : List ℕ → A) (l : List ℕ) (i at : ℕ) → i ≡ at → at < length l → decode (getD l i 0 ∷ []) ≡ decode (part l at 1)
 word-read decode l i at e h = ap decode (ap (λ (k : ℕ). getD l k 0 ∷ []) e ∙ sym (part-one l at 0 (omega arith)))
-
-pub word-stored : (l : List ℕ) (i at a b : ℕ) → i ≡ at → a ≡ b → at < length l → set l i a ≡ put l at (b ∷ [])
-word-stored l i at a b e f h = ap₂ (λ (k x : ℕ). set l k x) e f ∙ set-put l at b h
 
 -- what was put is decoded
 pub put-back : {A : Type 0} (decode : List ℕ → A) (l : List ℕ) (at : ℕ) (xs : List ℕ) (x : A) → at ≤ length l → decode xs ≡ x → decode (part (put l at xs) at (length xs)) ≡ x

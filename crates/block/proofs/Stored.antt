@@ -3,7 +3,7 @@ use Prim.Native.Nat.{ℕ, _+_, _<_, _≤_}
 use mathlib.Core.List.{List, [], _∷_}
 use mathlib.Core.Path.{_≡_, refl, sym, ap, _∙_}
 use native.Mathlib.Omega.{arith}
-use lib.ListN.{length, drop}
+use lib.ListN.{length}
 use Rattle.wire.specs.Wire.{part, put}
 use Rattle.memory.specs.Window.{noWindow, windowAt}
 use Rattle.memory.specs.declared.part.Part.{Part}
@@ -24,7 +24,7 @@ use Rattle.block.specs.Queue.{sendsWords, readsWords, terminatesWords}
 use Rattle.block.specs.Stream.{phaseWords, framingWords, loadedPhase, loadedFraming, loadedTerminates, loadedSends, loadedReads, loadedStream, storedPhase, storedFraming, storedTerminates, storedSends, storedReads, storedStream, streamWords}
 use Rattle.block.specs.Device.{loadedLen, loadedPart, loadedWindow, loadedDomain, rnicAt, storedLen, storedPart, storedWindow}
 use Rattle.block.specs.Exchange.{withFraming, withTerminates, withPart, withWindow, streamOf, withStreamOf}
-use Rattle.block.proofs.Lists.{listed-at, drop-put}
+use Rattle.block.proofs.Lists.{listed-at}
 use Rattle.block.proofs.Outside.{SameOutside, put-outside, wider}
 use Rattle.block.proofs.Exchanged.{phase-alone, framing-alone, terminates-alone, sends-alone, reads-alone, part-alone, window-alone, stream-alone, domain-alone, len-alone}
 
@@ -127,7 +127,3 @@ module _ (w v : List ℕ) (d : ℕ) (hd : d < 4) (long : blockWords ≤ length w
         let same = outside w v (readsOffset d j) (readsWords x) (omega arith) is in
         in-stream (readsOffset d j) 33 (omega arith) (omega arith) same (λ s. withReads s x)
         (reads-alone w v d j same ∙ ap (λ (y : Reads). withReads (loadedStream w d j) y) e)
-
--- the words past the block are as they were
-pub rest-kept : (w v : List ℕ) (at : ℕ) (xs : List ℕ) → blockWords ≤ length w → at + length xs ≤ blockWords → v ≡ put w at xs → drop blockWords v ≡ drop blockWords w
-rest-kept w v at xs long h is = ap (λ (l : List ℕ). drop blockWords l) is ∙ drop-put w at xs blockWords (omega arith) h

@@ -16,7 +16,7 @@ use Rattle.block.specs.Words.{lowerHalf, partIn, windowIn}
 use Rattle.block.specs.Queue.{sendsIn, readsIn, terminatesIn}
 use Rattle.block.specs.Stream.{phaseIn, framingIn, loadedPhase, loadedFraming, loadedTerminates, loadedSends, loadedReads, loadedStream}
 use Rattle.block.specs.Device.{loadedLen, loadedPart, loadedWindow, loadedDomain, rnicAt}
-use Rattle.block.proofs.Lists.{drop-put, listed-same}
+use Rattle.block.proofs.Lists.{listed-same}
 
 -- a part of n zeros before other words
 part-zeros : (l : List ℕ) (n b m : ℕ) → b + m ≤ n → part (replicate n 0 ++ l) b m ≡ replicate m 0
@@ -37,11 +37,6 @@ part-zeros l n b m h =
 pub zeros-put : (w v : List ℕ) (n : ℕ) → v ≡ put w 0 (replicate n 0) → (b m : ℕ) → b + m ≤ n → part v b m ≡ replicate m 0
 zeros-put w v n is b m h =
     ap (λ (x : List ℕ). part x b m) (is ∙ put-start w (replicate n 0)) ∙ part-zeros (drop (length (replicate n 0)) w) n b m h
-
-pub zeros-rest : (w v : List ℕ) (n : ℕ) → v ≡ put w 0 (replicate n 0) → drop n v ≡ drop n w
-zeros-rest w v n is =
-    let long = length-replicate {A = ℕ} n 0 in
-    ap (λ (x : List ℕ). drop n x) is ∙ drop-put w 0 (replicate n 0) n (omega arith) (omega arith)
 
 module _ (v : List ℕ) (zeros : (b m : ℕ) → b + m ≤ 933 → part v b m ≡ replicate m 0) where
   stream-zeros : (d j : ℕ) → d < 4 → j < 4 → loadedStream v d j ≡ closedStream

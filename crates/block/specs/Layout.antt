@@ -1,19 +1,20 @@
--- Where each group of the device's records stands in the block of words. src/layout.rt has the same numbers.
-use Prim.Native.Nat.{ℕ, _+_, _*_}
+-- Where each group of the device's records stands in the block of words. src/layout.rt has the same numbers. A domain and a slot are taken by
+-- their remainders, so that every number names a place.
+use Prim.Native.Nat.{ℕ, _+_, _*_, _%_}
 
 -- the length of the store, then four domains of 233 words
 abbrev pub blockWords : ℕ
 blockWords = 933
 
 abbrev pub domainOffset : ℕ → ℕ
-domainOffset d = 1 + d * 233
+domainOffset d = 1 + d % 4 * 233
 
 -- a domain: its part, sixteen windows of 3 words, four streams of 46 words
 abbrev pub windowOffset : ℕ → ℕ → ℕ
-windowOffset d i = domainOffset d + 1 + i * 3
+windowOffset d i = domainOffset d + 1 + i % 16 * 3
 
 abbrev pub streamOffset : ℕ → ℕ → ℕ
-streamOffset d j = domainOffset d + 49 + j * 46
+streamOffset d j = domainOffset d + 49 + j % 4 * 46
 
 -- a stream: its phase, its framing, its terminates, its sends in 10 words and its reads in 33
 abbrev pub framingOffset : ℕ → ℕ → ℕ

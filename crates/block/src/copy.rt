@@ -1,6 +1,7 @@
 // Words of one slice copied to another, and cleared.
 ghost use mathlib.Core.Path.{_≡_};
-ghost use Prim.Native.Nat.{_+_, _≤_};
+ghost use mathlib.Core.List.{_∷_, []};
+ghost use Prim.Native.Nat.{_+_, _<_, _≤_};
 ghost use lib.ListN.{length, replicate};
 ghost use Rattle.wire.specs.Wire.{put};
 
@@ -41,4 +42,12 @@ pub(crate) fn clear(dst: &mut [u64], at: usize, n: usize)
     ensures { λ _. ⌜ now (dst .exit) ≡ put (now (dst .entry)) at (replicate n 0) ⌝ }
 {
     clear_all(&mut dst[at..at + n]);
+}
+
+// Stores one word of dst.
+pub(crate) fn store_word(dst: &mut [u64], at: usize, x: u64)
+    requires { ⌜ at < length (now dst) ⌝ }
+    ensures { λ _. ⌜ now (dst .exit) ≡ put (now (dst .entry)) at (x ∷ []) ⌝ }
+{
+    dst[at] = x;
 }

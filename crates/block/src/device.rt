@@ -2,14 +2,14 @@
 // it, in one word each.
 ghost use mathlib.Core.Path.{_≡_};
 ghost use mathlib.Core.List.{_∷_, []};
-ghost use Prim.Native.Nat.{_<_, _≤_};
-ghost use lib.ListN.{length, drop};
+ghost use lib.ListN.{length};
 ghost use Rattle.rnic.specs.Rnic.{emptyRnic};
 ghost use Rattle.block.specs.Layout.{blockWords};
 ghost use Rattle.block.specs.Words.{pairWord, partIn, partWords};
 ghost use Rattle.block.specs.Exchange.{rnicOf};
 ghost use Rattle.block.specs.Device.{loadedLen, storedLen, loadedPart, storedPart, rnicAt};
 use crate::copy::clear;
+use crate::copy::store_word;
 use crate::layout::BLOCK_WORDS;
 use crate::layout::domain_offset;
 use crate::pack::lower;
@@ -18,27 +18,25 @@ use crate::pack::upper;
 use memory::part::Part;
 
 // Clears the block: the device has length 0, no window is live and no stream is open.
-pub fn clear_block(words: &mut [u64])
-    requires { ⌜ blockWords ≤ length (now words) ⌝ }
-    ensures { λ _. ⌜ (rnicAt (now (words .exit)) ≡ emptyRnic) × (drop blockWords (now (words .exit)) ≡ drop blockWords (now (words .entry))) ⌝ }
+pub fn clear_block(words: &mut [u64; 933])
+    ensures { λ _. ⌜ rnicAt (now (words .exit)) ≡ emptyRnic ⌝ }
 {
     clear(words, 0, BLOCK_WORDS);
 }
 
 // Loads the length of the store.
-pub fn load_len(words: &[u64]) -> u32
-    requires { ⌜ blockWords ≤ length (now words) ⌝ }
+pub fn load_len(words: &[u64; 933]) -> u32
     ensures { λ r. ⌜ r ≡ loadedLen (now (words .entry)) ⌝ }
 {
-    lower(words[0])
+    let all = &words[..];
+    lower(all[0])
 }
 
 // Stores the length of the store.
-pub fn store_len(words: &mut [u64], len: u32)
-    requires { ⌜ blockWords ≤ length (now words) ⌝ }
-    ensures { λ _. ⌜ (now (words .exit) ≡ storedLen (now (words .entry)) len) × (loadedLen (now (words .exit)) ≡ len) ⌝ }
+pub fn store_len(words: &mut [u64; 933], len: u32)
+    ensures { λ _. ⌜ (now (words .exit) ≡ storedLen (now (words .entry)) len) × (loadedLen (now (words .exit)) ≡ len) × (length (now (words .entry)) ≡ blockWords) ⌝ }
 {
-    words[0] = len as u64;
+    store_word(words, 0, len as u64);
 }
 
 // The part in a word.
@@ -59,27 +57,25 @@ fn encode(p: Part) -> u64
 }
 
 // Loads the part of a domain.
-pub fn load_part(words: &[u64], domain: usize) -> Part
-    requires { ⌜ (domain < 4) × (blockWords ≤ length (now words)) ⌝ }
+pub fn load_part(words: &[u64; 933], domain: usize) -> Part
     ensures { λ r. ⌜ r ≡ loadedPart (now (words .entry)) domain ⌝ }
 {
+    let all = &words[..];
     let at = domain_offset(domain);
-    decode(words[at])
+    decode(all[at])
 }
 
 // Stores the part of a domain.
-pub fn store_part(words: &mut [u64], domain: usize, p: Part)
-    requires { ⌜ (domain < 4) × (blockWords ≤ length (now words)) ⌝ }
-    ensures { λ _. ⌜ (now (words .exit) ≡ storedPart (now (words .entry)) domain p) × (loadedPart (now (words .exit)) domain ≡ p) ⌝ }
+pub fn store_part(words: &mut [u64; 933], domain: usize, p: Part)
+    ensures { λ _. ⌜ (now (words .exit) ≡ storedPart (now (words .entry)) domain p) × (loadedPart (now (words .exit)) domain ≡ p) × (length (now (words .entry)) ≡ blockWords) ⌝ }
 {
     let at = domain_offset(domain);
-    words[at] = encode(p);
+    store_word(words, at, encode(p));
 }
 
 // Stores a device that was just opened: its length and four parts, all windows dead and all streams closed.
-pub fn store_opened(words: &mut [u64], len: u32, p0: Part, p1: Part, p2: Part, p3: Part)
-    requires { ⌜ blockWords ≤ length (now words) ⌝ }
-    ensures { λ _. ⌜ (rnicAt (now (words .exit)) ≡ rnicOf len p0 p1 p2 p3) × (drop blockWords (now (words .exit)) ≡ drop blockWords (now (words .entry))) ⌝ }
+pub fn store_opened(words: &mut [u64; 933], len: u32, p0: Part, p1: Part, p2: Part, p3: Part)
+    ensures { λ _. ⌜ rnicAt (now (words .exit)) ≡ rnicOf len p0 p1 p2 p3 ⌝ }
 {
     clear_block(words);
     store_len(words, len);

@@ -1,7 +1,6 @@
 // How the bytes of a stream are read as frames: its framing, in one word.
 ghost use mathlib.Core.Path.{_≡_};
 ghost use mathlib.Core.List.{_∷_, []};
-ghost use Prim.Native.Nat.{_<_, _≤_};
 ghost use lib.ListN.{length};
 ghost use Rattle.block.specs.Layout.{blockWords};
 ghost use Rattle.block.specs.Words.{flagWord};
@@ -11,6 +10,7 @@ ghost use Rattle.block.specs.Stream.{
   loadedFraming,
   storedFraming,
 };
+use crate::copy::store_word;
 use crate::layout::FRAMING;
 use crate::layout::stream_offset;
 use crate::pack::flag;
@@ -31,19 +31,18 @@ fn encode(f: Framing) -> u64
 }
 
 // Loads the framing of the stream of a domain's slot.
-pub fn load_framing(words: &[u64], domain: usize, slot: usize) -> Framing
-    requires { ⌜ (domain < 4) × (slot < 4) × (blockWords ≤ length (now words)) ⌝ }
+pub fn load_framing(words: &[u64; 933], domain: usize, slot: usize) -> Framing
     ensures { λ r. ⌜ r ≡ loadedFraming (now (words .entry)) domain slot ⌝ }
 {
+    let all = &words[..];
     let at = stream_offset(domain, slot) + FRAMING;
-    decode(words[at])
+    decode(all[at])
 }
 
 // Stores the framing of the stream of a domain's slot.
-pub fn store_framing(words: &mut [u64], domain: usize, slot: usize, f: Framing)
-    requires { ⌜ (domain < 4) × (slot < 4) × (blockWords ≤ length (now words)) ⌝ }
-    ensures { λ _. ⌜ (now (words .exit) ≡ storedFraming (now (words .entry)) domain slot f) × (loadedFraming (now (words .exit)) domain slot ≡ f) ⌝ }
+pub fn store_framing(words: &mut [u64; 933], domain: usize, slot: usize, f: Framing)
+    ensures { λ _. ⌜ (now (words .exit) ≡ storedFraming (now (words .entry)) domain slot f) × (loadedFraming (now (words .exit)) domain slot ≡ f) × (length (now (words .entry)) ≡ blockWords) ⌝ }
 {
     let at = stream_offset(domain, slot) + FRAMING;
-    words[at] = encode(f);
+    store_word(words, at, encode(f));
 }

@@ -1,6 +1,6 @@
-// Where each group of the device's records stands in the block. specs/Layout.antt has the same numbers.
+// Where each group of the device's records stands in the block. specs/Layout.antt has the same numbers. A
+// domain and a slot are taken by their remainders, so that every number names a place.
 ghost use mathlib.Core.Path.{_≡_};
-ghost use Prim.Native.Nat.{_<_};
 ghost use Rattle.block.specs.Layout.{domainOffset, windowOffset, streamOffset};
 
 // How many words hold a device: the length of the store, then four domains.
@@ -34,24 +34,21 @@ pub const READS_WORDS: usize = 33;
 
 // Where a domain stands.
 pub fn domain_offset(domain: usize) -> usize
-    requires { ⌜ domain < 4 ⌝ }
     ensures { λ r. ⌜ r ≡ domainOffset domain ⌝ }
 {
-    DOMAINS + domain * DOMAIN_WORDS
+    DOMAINS + domain % 4 * DOMAIN_WORDS
 }
 
 // Where the window of a domain's slot stands.
 pub fn window_offset(domain: usize, slot: usize) -> usize
-    requires { ⌜ (domain < 4) × (slot < 16) ⌝ }
     ensures { λ r. ⌜ r ≡ windowOffset domain slot ⌝ }
 {
-    domain_offset(domain) + WINDOWS + slot * WINDOW_WORDS
+    domain_offset(domain) + WINDOWS + slot % 16 * WINDOW_WORDS
 }
 
 // Where the stream of a domain's slot stands.
 pub fn stream_offset(domain: usize, slot: usize) -> usize
-    requires { ⌜ (domain < 4) × (slot < 4) ⌝ }
     ensures { λ r. ⌜ r ≡ streamOffset domain slot ⌝ }
 {
-    domain_offset(domain) + STREAMS + slot * STREAM_WORDS
+    domain_offset(domain) + STREAMS + slot % 4 * STREAM_WORDS
 }

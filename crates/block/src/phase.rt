@@ -1,7 +1,6 @@
 // Where a stream stands: its phase, in one word.
 ghost use mathlib.Core.Path.{_≡_};
 ghost use mathlib.Core.List.{_∷_, []};
-ghost use Prim.Native.Nat.{_<_, _≤_};
 ghost use lib.ListN.{length};
 ghost use Rattle.block.specs.Layout.{blockWords};
 ghost use Rattle.block.specs.Stream.{
@@ -11,6 +10,7 @@ ghost use Rattle.block.specs.Stream.{
   loadedPhase,
   storedPhase,
 };
+use crate::copy::store_word;
 use crate::layout::stream_offset;
 use ddp::refusal::Refusal;
 use rdmap::phase::Phase;
@@ -43,19 +43,18 @@ fn encode(p: Phase) -> u64
 }
 
 // Loads the phase of the stream of a domain's slot.
-pub fn load_phase(words: &[u64], domain: usize, slot: usize) -> Phase
-    requires { ⌜ (domain < 4) × (slot < 4) × (blockWords ≤ length (now words)) ⌝ }
+pub fn load_phase(words: &[u64; 933], domain: usize, slot: usize) -> Phase
     ensures { λ r. ⌜ r ≡ loadedPhase (now (words .entry)) domain slot ⌝ }
 {
+    let all = &words[..];
     let at = stream_offset(domain, slot);
-    decode(words[at])
+    decode(all[at])
 }
 
 // Stores the phase of the stream of a domain's slot.
-pub fn store_phase(words: &mut [u64], domain: usize, slot: usize, p: Phase)
-    requires { ⌜ (domain < 4) × (slot < 4) × (blockWords ≤ length (now words)) ⌝ }
-    ensures { λ _. ⌜ (now (words .exit) ≡ storedPhase (now (words .entry)) domain slot p) × (loadedPhase (now (words .exit)) domain slot ≡ p) ⌝ }
+pub fn store_phase(words: &mut [u64; 933], domain: usize, slot: usize, p: Phase)
+    ensures { λ _. ⌜ (now (words .exit) ≡ storedPhase (now (words .entry)) domain slot p) × (loadedPhase (now (words .exit)) domain slot ≡ p) × (length (now (words .entry)) ≡ blockWords) ⌝ }
 {
     let at = stream_offset(domain, slot);
-    words[at] = encode(p);
+    store_word(words, at, encode(p));
 }

@@ -1,7 +1,7 @@
 // Queue 1 of a stream: its reads, in 33 words.
 ghost use mathlib.Core.Path.{_≡_};
 ghost use mathlib.Core.List.{[]};
-ghost use Prim.Native.Nat.{_+_, _<_, _≤_};
+ghost use Prim.Native.Nat.{_+_, _≤_};
 ghost use lib.ListN.{length};
 ghost use Rattle.block.specs.Layout.{blockWords};
 ghost use Rattle.block.specs.Queue.{
@@ -15,6 +15,7 @@ ghost use Rattle.block.specs.Queue.{
 };
 ghost use Rattle.block.specs.Stream.{loadedReads, storedReads};
 use crate::copy::copy;
+use crate::copy::store_word;
 use crate::layout::READS;
 use crate::layout::READS_WORDS;
 use crate::layout::stream_offset;
@@ -116,35 +117,34 @@ fn four_words(a: ReadRequest, b: ReadRequest, c: ReadRequest, d: ReadRequest) ->
 }
 
 // Loads the reads of the stream of a domain's slot.
-pub fn load_reads(words: &[u64], domain: usize, slot: usize) -> Reads
-    requires { ⌜ (domain < 4) × (slot < 4) × (blockWords ≤ length (now words)) ⌝ }
+pub fn load_reads(words: &[u64; 933], domain: usize, slot: usize) -> Reads
     ensures { λ r. ⌜ r ≡ loadedReads (now (words .entry)) domain slot ⌝ }
 {
+    let all = &words[..];
     let at = stream_offset(domain, slot) + READS;
     let end = at + READS_WORDS;
-    decode(&words[at..end])
+    decode(&all[at..end])
 }
 
 // Loads the tally of the reads of the stream of a domain's slot.
-pub fn load_tally(words: &[u64], domain: usize, slot: usize) -> Tally
-    requires { ⌜ (domain < 4) × (slot < 4) × (blockWords ≤ length (now words)) ⌝ }
+pub fn load_tally(words: &[u64; 933], domain: usize, slot: usize) -> Tally
     ensures { λ r. ⌜ r ≡ tallyOf (loadedReads (now (words .entry)) domain slot) ⌝ }
 {
+    let all = &words[..];
     let at = stream_offset(domain, slot) + READS;
     let end = at + READS_WORDS;
-    decode_tally(&words[at..end])
+    decode_tally(&all[at..end])
 }
 
 // Stores the reads of the stream of a domain's slot.
-pub fn store_reads(words: &mut [u64], domain: usize, slot: usize, r: Reads)
-    requires { ⌜ (domain < 4) × (slot < 4) × (blockWords ≤ length (now words)) ⌝ }
-    ensures { λ _. ⌜ (now (words .exit) ≡ storedReads (now (words .entry)) domain slot r) × (loadedReads (now (words .exit)) domain slot ≡ r) ⌝ }
+pub fn store_reads(words: &mut [u64; 933], domain: usize, slot: usize, r: Reads)
+    ensures { λ _. ⌜ (now (words .exit) ≡ storedReads (now (words .entry)) domain slot r) × (loadedReads (now (words .exit)) domain slot ≡ r) × (length (now (words .entry)) ≡ blockWords) ⌝ }
 {
     let at = stream_offset(domain, slot) + READS;
     let e = r.entries;
     let first = four_words(e[0], e[1], e[2], e[3]);
     let last = four_words(e[4], e[5], e[6], e[7]);
-    words[at] = pair(r.msn, r.count);
+    store_word(words, at, pair(r.msn, r.count));
     copy(words, at + 1, &first);
     copy(words, at + 17, &last);
 }

@@ -1,6 +1,5 @@
 // Queue 0 of a stream: its sends, in 10 words.
 ghost use mathlib.Core.Path.{_≡_};
-ghost use Prim.Native.Nat.{_<_, _≤_};
 ghost use lib.ListN.{length};
 ghost use Rattle.block.specs.Layout.{blockWords};
 ghost use Rattle.block.specs.Words.{bufferIn, bufferWord};
@@ -112,29 +111,28 @@ fn encode(s: Sends) -> [u64; 10]
 }
 
 // Loads the sends of the stream of a domain's slot.
-pub fn load_sends(words: &[u64], domain: usize, slot: usize) -> Sends
-    requires { ⌜ (domain < 4) × (slot < 4) × (blockWords ≤ length (now words)) ⌝ }
+pub fn load_sends(words: &[u64; 933], domain: usize, slot: usize) -> Sends
     ensures { λ r. ⌜ r ≡ loadedSends (now (words .entry)) domain slot ⌝ }
 {
+    let all = &words[..];
     let at = stream_offset(domain, slot) + SENDS;
     let end = at + SENDS_WORDS;
-    decode(&words[at..end])
+    decode(&all[at..end])
 }
 
 // Loads the head of the sends of the stream of a domain's slot.
-pub fn load_head(words: &[u64], domain: usize, slot: usize) -> Head
-    requires { ⌜ (domain < 4) × (slot < 4) × (blockWords ≤ length (now words)) ⌝ }
+pub fn load_head(words: &[u64; 933], domain: usize, slot: usize) -> Head
     ensures { λ r. ⌜ r ≡ headOf (loadedSends (now (words .entry)) domain slot) ⌝ }
 {
+    let all = &words[..];
     let at = stream_offset(domain, slot) + SENDS;
     let end = at + SENDS_WORDS;
-    decode_head(&words[at..end])
+    decode_head(&all[at..end])
 }
 
 // Stores the sends of the stream of a domain's slot.
-pub fn store_sends(words: &mut [u64], domain: usize, slot: usize, s: Sends)
-    requires { ⌜ (domain < 4) × (slot < 4) × (blockWords ≤ length (now words)) ⌝ }
-    ensures { λ _. ⌜ (now (words .exit) ≡ storedSends (now (words .entry)) domain slot s) × (loadedSends (now (words .exit)) domain slot ≡ s) ⌝ }
+pub fn store_sends(words: &mut [u64; 933], domain: usize, slot: usize, s: Sends)
+    ensures { λ _. ⌜ (now (words .exit) ≡ storedSends (now (words .entry)) domain slot s) × (loadedSends (now (words .exit)) domain slot ≡ s) × (length (now (words .entry)) ≡ blockWords) ⌝ }
 {
     let group = encode(s);
     copy(words, stream_offset(domain, slot) + SENDS, &group);

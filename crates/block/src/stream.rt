@@ -1,6 +1,5 @@
 // A stream of a domain, stored in its 46 words: all of its groups.
 ghost use mathlib.Core.Path.{_≡_};
-ghost use Prim.Native.Nat.{_<_, _≤_};
 ghost use lib.ListN.{length};
 ghost use Rattle.block.specs.Layout.{blockWords};
 ghost use Rattle.block.specs.Stream.{loadedStream, storedStream};
@@ -12,9 +11,8 @@ use crate::terminates::store_terminates;
 use rdmap::stream::Stream;
 
 // Stores the stream of a domain's slot.
-pub fn store_stream(words: &mut [u64], domain: usize, slot: usize, s: Stream)
-    requires { ⌜ (domain < 4) × (slot < 4) × (blockWords ≤ length (now words)) ⌝ }
-    ensures { λ _. ⌜ (now (words .exit) ≡ storedStream (now (words .entry)) domain slot s) × (loadedStream (now (words .exit)) domain slot ≡ s) ⌝ }
+pub fn store_stream(words: &mut [u64; 933], domain: usize, slot: usize, s: Stream)
+    ensures { λ _. ⌜ (now (words .exit) ≡ storedStream (now (words .entry)) domain slot s) × (loadedStream (now (words .exit)) domain slot ≡ s) × (length (now (words .entry)) ≡ blockWords) ⌝ }
 {
     store_phase(words, domain, slot, s.phase);
     store_framing(words, domain, slot, s.framing);

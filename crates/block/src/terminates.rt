@@ -1,11 +1,11 @@
 // Queue 2 of a stream: its terminates, in one word.
 ghost use mathlib.Core.Path.{_≡_};
 ghost use mathlib.Core.List.{_∷_, []};
-ghost use Prim.Native.Nat.{_<_, _≤_};
 ghost use lib.ListN.{length};
 ghost use Rattle.block.specs.Layout.{blockWords};
 ghost use Rattle.block.specs.Queue.{terminatesIn, terminatesWords};
 ghost use Rattle.block.specs.Stream.{loadedTerminates, storedTerminates};
+use crate::copy::store_word;
 use crate::layout::TERMINATES;
 use crate::layout::stream_offset;
 use crate::pack::lower;
@@ -26,19 +26,18 @@ fn encode(t: Terminates) -> u64
 }
 
 // Loads the terminates of the stream of a domain's slot.
-pub fn load_terminates(words: &[u64], domain: usize, slot: usize) -> Terminates
-    requires { ⌜ (domain < 4) × (slot < 4) × (blockWords ≤ length (now words)) ⌝ }
+pub fn load_terminates(words: &[u64; 933], domain: usize, slot: usize) -> Terminates
     ensures { λ r. ⌜ r ≡ loadedTerminates (now (words .entry)) domain slot ⌝ }
 {
+    let all = &words[..];
     let at = stream_offset(domain, slot) + TERMINATES;
-    decode(words[at])
+    decode(all[at])
 }
 
 // Stores the terminates of the stream of a domain's slot.
-pub fn store_terminates(words: &mut [u64], domain: usize, slot: usize, t: Terminates)
-    requires { ⌜ (domain < 4) × (slot < 4) × (blockWords ≤ length (now words)) ⌝ }
-    ensures { λ _. ⌜ (now (words .exit) ≡ storedTerminates (now (words .entry)) domain slot t) × (loadedTerminates (now (words .exit)) domain slot ≡ t) ⌝ }
+pub fn store_terminates(words: &mut [u64; 933], domain: usize, slot: usize, t: Terminates)
+    ensures { λ _. ⌜ (now (words .exit) ≡ storedTerminates (now (words .entry)) domain slot t) × (loadedTerminates (now (words .exit)) domain slot ≡ t) × (length (now (words .entry)) ≡ blockWords) ⌝ }
 {
     let at = stream_offset(domain, slot) + TERMINATES;
-    words[at] = encode(t);
+    store_word(words, at, encode(t));
 }

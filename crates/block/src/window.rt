@@ -1,6 +1,5 @@
 // The windows of a domain, in three words each.
 ghost use mathlib.Core.Path.{_≡_};
-ghost use Prim.Native.Nat.{_<_, _≤_};
 ghost use lib.ListN.{length};
 ghost use Rattle.block.specs.Layout.{blockWords};
 ghost use Rattle.block.specs.Words.{windowIn, accessWord, windowWords};
@@ -52,29 +51,28 @@ fn encode(w: Window) -> [u64; 3]
 }
 
 // Loads the window of a domain's slot.
-pub fn load_window(words: &[u64], domain: usize, slot: usize) -> Window
-    requires { ⌜ (domain < 4) × (slot < 16) × (blockWords ≤ length (now words)) ⌝ }
+pub fn load_window(words: &[u64; 933], domain: usize, slot: usize) -> Window
     ensures { λ r. ⌜ r ≡ loadedWindow (now (words .entry)) domain slot ⌝ }
 {
+    let all = &words[..];
     let at = window_offset(domain, slot);
     let end = at + WINDOW_WORDS;
-    decode(&words[at..end])
+    decode(&all[at..end])
 }
 
 // Loads whether the window of a domain's slot is live.
-pub fn load_live(words: &[u64], domain: usize, slot: usize) -> bool
-    requires { ⌜ (domain < 4) × (slot < 16) × (blockWords ≤ length (now words)) ⌝ }
+pub fn load_live(words: &[u64; 933], domain: usize, slot: usize) -> bool
     ensures { λ r. ⌜ r ≡ loadedWindow (now (words .entry)) domain slot .live ⌝ }
 {
+    let all = &words[..];
     let at = window_offset(domain, slot);
     let end = at + WINDOW_WORDS;
-    decode_live(&words[at..end])
+    decode_live(&all[at..end])
 }
 
 // Stores the window of a domain's slot.
-pub fn store_window(words: &mut [u64], domain: usize, slot: usize, w: Window)
-    requires { ⌜ (domain < 4) × (slot < 16) × (blockWords ≤ length (now words)) ⌝ }
-    ensures { λ _. ⌜ (now (words .exit) ≡ storedWindow (now (words .entry)) domain slot w) × (loadedWindow (now (words .exit)) domain slot ≡ w) ⌝ }
+pub fn store_window(words: &mut [u64; 933], domain: usize, slot: usize, w: Window)
+    ensures { λ _. ⌜ (now (words .exit) ≡ storedWindow (now (words .entry)) domain slot w) × (loadedWindow (now (words .exit)) domain slot ≡ w) × (length (now (words .entry)) ≡ blockWords) ⌝ }
 {
     let group = encode(w);
     copy(words, window_offset(domain, slot), &group);

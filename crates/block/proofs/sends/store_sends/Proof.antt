@@ -25,16 +25,13 @@ slice-aggregate-copy c = search needs
 copy-requires : tie.Need-copy-requires
 copy-requires c κs = search needs
 
-same-length : tie.Need-same-length
-same-length c = search needs
-
 returns : tie.Need-returns
 returns c =
-    let a = c .before .before .before .before .before .before .before .before .args in
-    let o = c .before .before .before .before .stream-offset in
-    let e = c .before .before .before .before .before .before .encode .ensures in
-    let after = c .before .before .copy .ensures ∙ ap₂ (λ (at : ℕ) (g : List ℕ). put (a .words .now) (at + 3) g) (o .ensures) (e .0) in
-    (after, ap (λ (w : List ℕ). loadedSends w (a .domain) (a .slot)) after ∙ sends-stored (a .words .now) (a .domain) (a .slot) (a .s) (omega arith) (e .1))
+    let a = c .before .before .before .before .before .args in
+    let o = c .before .before .stream-offset in
+    let e = c .before .before .before .before .encode .ensures in
+    let after = c .copy .ensures ∙ ap₂ (λ (at : ℕ) (g : List ℕ). put (a .words .now) (at + 3) g) (o .ensures) (e .0) in
+    (after, ap (λ (w : List ℕ). loadedSends w (a .domain) (a .slot)) after ∙ sends-stored (a .words .now) (a .domain) (a .slot) (a .s) (omega arith) (e .1), search needs)
 
 pub store-sends-spec : {M : Type 1} → statement M
 store-sends-spec =
@@ -45,5 +42,4 @@ store-sends-spec =
     add-copy
     slice-aggregate-copy
     copy-requires
-    same-length
     returns)

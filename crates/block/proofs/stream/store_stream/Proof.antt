@@ -20,21 +20,20 @@ store-sends-requires c κs = search needs
 store-reads-requires : tie.Need-store-reads-requires
 store-reads-requires c κs = search needs
 
-same-length : tie.Need-same-length
-same-length c = search needs
-
 returns : tie.Need-returns
 returns c =
-    let start = c .before .before .before .before .before .before .before .before .before .before .before .before .before .before .before .before .before .before .before .before .before in
-    let a = start .args in
-    let e₅ = c .before .before .store-reads in
-    let e₄ = c .before .before .before .before .before .before .store-sends in
-    let e₃ = c .before .before .before .before .before .before .before .before .before .before .store-terminates in
-    let e₂ = c .before .before .before .before .before .before .before .before .before .before .before .before .before .before .store-framing in
-    let e₁ = c .before .before .before .before .before .before .before .before .before .before .before .before .before .before .before .before .before .before .store-phase in
-    stream-stored (a .words .now) (a .domain) (a .slot) (a .s) (omega (arith, start .pre)) (e₁ .last .0) (e₂ .last .0) (e₃ .last .0) (e₄ .last .0) (e₅ .last .0)
+    let a = c .before .before .before .before .before .before .before .before .before .before .args in
+    let e₅ = c .store-reads in
+    let e₄ = c .before .before .store-sends in
+    let e₃ = c .before .before .before .before .store-terminates in
+    let e₂ = c .before .before .before .before .before .before .store-framing in
+    let e₁ = c .before .before .before .before .before .before .before .before .store-phase in
+    let whole = e₁ .ensures .2 in
+    let e = stream-stored (a .words .now) (a .domain) (a .slot) (a .s) (omega (arith, whole)) (e₁ .last .0) (e₂ .last .0) (e₃ .last .0) (e₄ .last .0) (e₅ .last .0)
     (e₁ .ensures .0) (e₂ .ensures .0) (e₃ .ensures .0) (e₄ .ensures .0) (e₅ .ensures .0)
     (e₁ .ensures .1) (e₂ .ensures .1) (e₃ .ensures .1) (e₄ .ensures .1) (e₅ .ensures .1)
+    in
+    (e .0, e .1, whole)
 
 pub store-stream-spec : {M : Type 1} → statement M
 store-stream-spec =
@@ -45,5 +44,4 @@ store-stream-spec =
     store-terminates-requires
     store-sends-requires
     store-reads-requires
-    same-length
     returns)

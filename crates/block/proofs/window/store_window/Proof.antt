@@ -22,16 +22,13 @@ slice-aggregate-copy c = search needs
 copy-requires : tie.Need-copy-requires
 copy-requires c κs = search needs
 
-same-length : tie.Need-same-length
-same-length c = search needs
-
 returns : tie.Need-returns
 returns c =
-    let a = c .before .before .before .before .before .before .before .before .args in
-    let o = c .before .before .before .before .window-offset in
-    let e = c .before .before .before .before .before .before .encode .ensures in
-    let after = c .before .before .copy .ensures ∙ ap₂ (λ (at : ℕ) (g : List ℕ). put (a .words .now) at g) (o .ensures) (e .0) in
-    (after, ap (λ (w : List ℕ). loadedWindow w (a .domain) (a .slot)) after ∙ window-stored (a .words .now) (a .domain) (a .slot) (a .w) (omega arith) (e .1))
+    let a = c .before .before .before .before .before .args in
+    let o = c .before .before .window-offset in
+    let e = c .before .before .before .before .encode .ensures in
+    let after = c .copy .ensures ∙ ap₂ (λ (at : ℕ) (g : List ℕ). put (a .words .now) at g) (o .ensures) (e .0) in
+    (after, ap (λ (w : List ℕ). loadedWindow w (a .domain) (a .slot)) after ∙ window-stored (a .words .now) (a .domain) (a .slot) (a .w) (omega arith) (e .1), search needs)
 
 pub store-window-spec : {M : Type 1} → statement M
 store-window-spec =
@@ -41,5 +38,4 @@ store-window-spec =
     window-offset-requires
     slice-aggregate-copy
     copy-requires
-    same-length
     returns)

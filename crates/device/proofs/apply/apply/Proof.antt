@@ -74,7 +74,7 @@ store-sends-requires-2 : tie.Need-store-sends-requires-2
 store-sends-requires-2 c κs = search needs
 
 kill-requires : tie.Need-kill-requires
-kill-requires c κs = c .before .before .before .before .before .before .before .before .before .before .before .before .before .before .before .before .pre .0
+kill-requires c κs = c .before .before .before .before .before .before .before .before .before .before .before .before .before .before .before .pre .0
 
 sent-event-requires : tie.Need-sent-event-requires
 sent-event-requires c κs = search needs
@@ -147,39 +147,39 @@ same-length-2 c = search needs
 
 returns-4 : tie.Need-returns-4
 returns-4 c =
-    let a = c .before .before .before .before .before .before .before .before .before .before .before .before .before .before .before .before .args in
-    let h = c .before .before .before .before .before .before .before .before .before .before .before .before .before .before .before .before .pre in
+    let a = c .before .before .before .before .before .before .before .before .before .before .before .before .before .before .before .args in
+    let h = c .before .before .before .before .before .before .before .before .before .before .before .before .before .before .before .pre in
     let w = a .words .now in
     let v = c .before .store-sends .last .0 in
-    let f = c .before .before .before .before .before .before .before .before .before .before .before .before .verdict3 .given in
+    let f = c .before .before .before .before .before .before .before .before .before .before .before .verdict3 .given in
     let e = c .before .before .sending .ensures ∙ ap (λ (q : Sends). sendingSends q (f .0 .1 .0) (f .0 .1 .1 .0)) (c .before .before .before .before .load-sends .ensures) in
     let stored = sends-changed w v (a .domain) (h .0) (search needs) (a .slot) (h .1) (c .before .before .sending .result) (c .before .store-sends .ensures .0) (c .before .store-sends .ensures .1) ∙ ap (λ (q : Sends). withStreamOf (rnicAt w) (a .domain) (a .slot) (withSends (streamOf (rnicAt w) (a .domain) (a .slot)) q)) e in
     let done = told w (a .domain) (a .slot) (h .0) (h .1) (a .total) (a .from) (a .payload .now) (a .store .now) v (f .1) (sent-more w (a .domain) (a .slot) (h .0) (h .1) (a .total) (a .from) (a .payload .now) (a .store .now) (f .0 .0) (f .0 .1 .0) (f .0 .1 .1 .0) v stored) in
-    (c .taken3 .ensures ∙ done .0, done .1, c .before .before .before .before .before .before .before .before .before .place-from2 .ensures ∙ done .2)
+    (c .taken3 .ensures ∙ done .0, done .1, c .before .before .before .before .before .before .before .before .place-from2 .ensures ∙ done .2)
 
 same-length-3 : tie.Need-same-length-3
 same-length-3 c = search needs
 
 returns-5 : tie.Need-returns-5
 returns-5 c =
-    let a = c .before .before .before .before .before .before .before .before .before .before .before .before .before .before .before .before .before .before .args in
-    let h = c .before .before .before .before .before .before .before .before .before .before .before .before .before .before .before .before .before .before .pre in
+    let a = c .before .before .before .before .before .before .before .before .before .before .before .before .before .before .before .before .before .args in
+    let h = c .before .before .before .before .before .before .before .before .before .before .before .before .before .before .before .before .before .pre in
     let w = a .words .now in
     let v = c .before .kill .last .0 in
-    let f = c .before .before .before .before .before .before .before .before .before .before .before .before .before .before .verdict4 .given in
+    let f = c .before .before .before .before .before .before .before .before .before .before .before .before .before .verdict4 .given in
     let u = c .before .before .before .store-sends2 .last .0 in
     let e = c .before .before .before .before .sent .ensures ∙ ap sentSends (c .before .before .before .before .before .before .load-sends2 .ensures) in
     let stored = sends-changed w u (a .domain) (h .0) (search needs) (a .slot) (h .1) (c .before .before .before .before .sent .result) (c .before .before .before .store-sends2 .ensures .0) (c .before .before .before .store-sends2 .ensures .1) ∙ ap (λ (q : Sends). withStreamOf (rnicAt w) (a .domain) (a .slot) (withSends (streamOf (rnicAt w) (a .domain) (a .slot)) q)) e in
     let done = told w (a .domain) (a .slot) (h .0) (h .1) (a .total) (a .from) (a .payload .now) (a .store .now) v (f .1) (sent-last w (a .domain) (a .slot) (h .0) (h .1) (a .total) (a .from) (a .payload .now) (a .store .now) (f .0 .0) (f .0 .1 .0) (f .0 .1 .1 .0) (f .0 .1 .1 .1 .0) (f .0 .1 .1 .1 .1 .0) u v stored (c .before .kill .ensures)) in
-    (ap (λ (x : Event). Taken (a .total) x) (c .sent-event .ensures) ∙ done .0, done .1, c .before .before .before .before .before .before .before .before .before .before .before .place-from3 .ensures ∙ done .2)
+    (ap (λ (x : Event). Taken (a .total) x) (c .sent-event .ensures) ∙ done .0, done .1, c .before .before .before .before .before .before .before .before .before .before .place-from3 .ensures ∙ done .2)
 
 returns-6 : tie.Need-returns-6
 returns-6 c =
-    let a = c .before .before .before .before .before .before .before .before .before .before .before .before .args in
-    let h = c .before .before .before .before .before .before .before .before .before .before .before .before .pre in
+    let a = c .before .before .before .before .before .before .before .before .before .before .before .args in
+    let h = c .before .before .before .before .before .before .before .before .before .before .before .pre in
     let w = a .words .now in
     let v = c .before .store-reads .last .0 in
-    let f = c .before .before .before .before .before .before .before .before .verdict5 .given in
+    let f = c .before .before .before .before .before .before .before .verdict5 .given in
     let e = c .before .before .queued .ensures ∙ ap (λ (q : Reads). queuedReads q (f .0 .0)) (c .before .before .before .before .load-reads .ensures) in
     let stored = reads-changed w v (a .domain) (h .0) (search needs) (a .slot) (h .1) (c .before .before .queued .result) (c .before .store-reads .ensures .0) (c .before .store-reads .ensures .1) ∙ ap (λ (q : Reads). withStreamOf (rnicAt w) (a .domain) (a .slot) (withReads (streamOf (rnicAt w) (a .domain) (a .slot)) q)) e in
     let done = told w (a .domain) (a .slot) (h .0) (h .1) (a .total) (a .from) (a .payload .now) (a .store .now) v (f .1) (read-queued w (a .domain) (a .slot) (h .0) (h .1) (a .total) (a .from) (a .payload .now) (a .store .now) (f .0 .0) v stored) in
@@ -187,11 +187,11 @@ returns-6 c =
 
 returns-7 : tie.Need-returns-7
 returns-7 c =
-    let a = c .before .before .before .before .before .before .before .before .before .before .before .before .before .before .args in
-    let h = c .before .before .before .before .before .before .before .before .before .before .before .before .before .before .pre in
+    let a = c .before .before .before .before .before .before .before .before .before .before .before .before .before .args in
+    let h = c .before .before .before .before .before .before .before .before .before .before .before .before .before .pre in
     let w = a .words .now in
     let v = c .store-terminates .last .0 in
-    let f = c .before .before .before .before .before .before .before .before .before .before .verdict6 .given in
+    let f = c .before .before .before .before .before .before .before .before .before .verdict6 .given in
     let u = c .before .before .before .store-phase .last .0 in
     let phased = phase-changed w u (a .domain) (h .0) (search needs) (a .slot) (h .1) (c .before .before .before .before .phase-of .result) (c .before .before .before .store-phase .ensures .0) (c .before .before .before .store-phase .ensures .1) ∙ ap (λ (p : Phase). withStreamOf (rnicAt w) (a .domain) (a .slot) (inPhase (streamOf (rnicAt w) (a .domain) (a .slot)) p)) (c .before .before .before .before .phase-of .ensures) in
     let e = c .before .risen .ensures ∙ ap risenTerminates (c .before .before .before .before .before .before .load-terminates .ensures) in

@@ -17,8 +17,8 @@ load-head-requires c κs = search needs
 
 queue-of-requires : tie.Need-queue-of-requires
 queue-of-requires c κs =
-    let a = c .before .before .before .args in
-    let h = c .before .before .before .pre in
+    let a = c .before .before .args in
+    let h = c .before .before .pre in
     (h .0, h .1, c .load-head .ensures ∙ ap headOf (sym (sends-of (a .words .now) (a .domain) (a .slot) (h .0) (h .1))))
 
 stag-named-requires : tie.Need-stag-named-requires
@@ -35,12 +35,12 @@ judge-untagged-segment-requires c κs = search needs
 
 returns : tie.Need-returns
 returns c =
-    let a = c .before .before .before .before .before .before .before .before .before .before .args in
-    let h = c .before .before .before .before .before .before .before .before .before .before .pre in
+    let a = c .before .before .before .before .before .before .before .before .args in
+    let h = c .before .before .before .before .before .before .before .before .pre in
     let w = a .words .now in
     let payload = a .payload .now in
-    let p = c .before .before .before .before .before .before .before .load-head .ensures ∙ ap headOf (sym (sends-of w (a .domain) (a .slot) (h .0) (h .1))) in
-    let q = c .before .before .before .before .before .before .queue-of .ensures in
+    let p = c .before .before .before .before .before .before .load-head .ensures ∙ ap headOf (sym (sends-of w (a .domain) (a .slot) (h .0) (h .1))) in
+    let q = c .before .before .before .before .before .queue-of .ensures in
     let n = c .before .before .before .slot-named .ensures ∙ ap slotNamed (c .before .before .before .before .stag-named .ensures) in
     let window = c .before .before .load-window .ensures ∙ ap (loadedWindow w (a .domain)) n ∙ sym (window-at w (a .domain) (h .0) (slotNamed (stagNamed (a .h) payload)) (search needs)) in
     c .judge-untagged-segment .ensures

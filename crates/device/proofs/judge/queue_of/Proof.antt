@@ -22,10 +22,10 @@ load-tally-requires c κs = search needs
 returns-2 : tie.Need-returns-2
 unfolding queueOf
 returns-2 c =
-    let a = c .before .before .before .before .before .args in
-    let h = c .before .before .before .before .before .pre in
+    let a = c .before .before .before .before .args in
+    let h = c .before .before .before .before .pre in
     let p = c .before .load-tally .ensures ∙ ap tallyOf (sym (reads-of (a .words .now) (a .domain) (a .slot) (h .0) (h .1))) in
-    simp (ne-eqb _ _ (c .before .before .before .before .if1 .left), eq-eqb _ _ (c .before .before .before .if2 .taken)) (λ i. record { msn = p i .msn; room = ltb (p i .count) 8; limit = 28; taken = 0 })
+    simp (ne-eqb _ _ (c .before .before .before .if1 .left), eq-eqb _ _ (c .before .before .if2 .taken)) (λ i. record { msn = p i .msn; room = ltb (p i .count) 8; limit = 28; taken = 0 })
 
 load-terminates-requires : tie.Need-load-terminates-requires
 load-terminates-requires c κs = search needs
@@ -36,9 +36,9 @@ queue-requires c κs = search needs
 returns-3 : tie.Need-returns-3
 unfolding queueOf
 returns-3 c =
-    let a = c .before .before .before .before .before .args in
-    let h = c .before .before .before .before .before .pre in
-    simp (ne-eqb _ _ (c .before .before .before .before .if1 .left), ne-eqb _ _ (c .before .before .before .if2 .left)) (c .queue .ensures ∙ ap terminateQueue (c .before .load-terminates .ensures ∙ sym (terminates-of (a .words .now) (a .domain) (a .slot) (h .0) (h .1))))
+    let a = c .before .before .before .before .args in
+    let h = c .before .before .before .before .pre in
+    simp (ne-eqb _ _ (c .before .before .before .if1 .left), ne-eqb _ _ (c .before .before .if2 .left)) (c .queue .ensures ∙ ap terminateQueue (c .before .load-terminates .ensures ∙ sym (terminates-of (a .words .now) (a .domain) (a .slot) (h .0) (h .1))))
 
 pub queue-of-spec : {M : Type 1} → statement M
 queue-of-spec =

@@ -27,29 +27,29 @@ in-order-requires c κs = search needs
 cast-store-opened : tie.Need-cast-store-opened
 cast-store-opened c = omega (arith, bounds (c .before))
 
+cast-t16 : tie.Need-cast-t16
+cast-t16 c = omega (arith, bounds (c .before))
+
 cast-t17 : tie.Need-cast-t17
 cast-t17 c = omega (arith, bounds (c .before))
 
-cast-t18 : tie.Need-cast-t18
-cast-t18 c = omega (arith, bounds (c .before))
+cast-t19 : tie.Need-cast-t19
+cast-t19 c = omega (arith, bounds (c .before))
 
 cast-t20 : tie.Need-cast-t20
 cast-t20 c = omega (arith, bounds (c .before))
 
-cast-t21 : tie.Need-cast-t21
-cast-t21 c = omega (arith, bounds (c .before))
+cast-t22 : tie.Need-cast-t22
+cast-t22 c = omega (arith, bounds (c .before))
 
 cast-t23 : tie.Need-cast-t23
 cast-t23 c = omega (arith, bounds (c .before))
 
-cast-t24 : tie.Need-cast-t24
-cast-t24 c = omega (arith, bounds (c .before))
+cast-t25 : tie.Need-cast-t25
+cast-t25 c = omega (arith, bounds (c .before))
 
 cast-t26 : tie.Need-cast-t26
 cast-t26 c = omega (arith, bounds (c .before))
-
-cast-t27 : tie.Need-cast-t27
-cast-t27 c = omega (arith, bounds (c .before))
 
 store-opened-requires : tie.Need-store-opened-requires
 store-opened-requires c κs = search needs
@@ -59,7 +59,7 @@ unfolding openedRnic
 returns c =
     let h = sym (c .before .before .before .before .before .length-in-range .ensures) ∙ c .before .before .before .before .if1 .taken in
     let k = sym (c .before .before .before .in-order .ensures) ∙ c .before .before .if2 .taken in
-    (simp (h, k), simp (h, k) (c .store-opened .ensures .0))
+    (simp (h, k), simp (h, k) (c .store-opened .ensures))
 
 clear-block-requires : tie.Need-clear-block-requires
 clear-block-requires c κs = search needs
@@ -69,7 +69,7 @@ unfolding openedRnic
 returns-2 c =
     let h = sym (c .before .before .before .before .before .length-in-range .ensures) ∙ c .before .before .before .before .if1 .taken in
     let k = sym (c .before .before .before .in-order .ensures) ∙ c .before .before .if2 .left in
-    (simp (h, k), simp (h, k) (c .clear-block .ensures .0))
+    (simp (h, k), simp (h, k) (c .clear-block .ensures))
 
 clear-block-requires-2 : tie.Need-clear-block-requires-2
 clear-block-requires-2 c κs = search needs
@@ -78,7 +78,7 @@ returns-3 : tie.Need-returns-3
 unfolding openedRnic
 returns-3 c =
     let h = sym (c .before .before .before .length-in-range .ensures) ∙ c .before .before .if1 .left in
-    (simp h, simp h (c .clear-block2 .ensures .0))
+    (simp h, simp h (c .clear-block2 .ensures))
 
 pub open-spec : {M : Type 1} → statement M
 open-spec =
@@ -87,14 +87,14 @@ open-spec =
     length-in-range-requires
     in-order-requires
     cast-store-opened
+    cast-t16
     cast-t17
-    cast-t18
+    cast-t19
     cast-t20
-    cast-t21
+    cast-t22
     cast-t23
-    cast-t24
+    cast-t25
     cast-t26
-    cast-t27
     store-opened-requires
     returns
     clear-block-requires

@@ -24,8 +24,8 @@ same-length c = search needs
 returns : tie.Need-returns
 unfolding rnicReceived rnicReceivedStore
 returns c =
-    let a = c .before .before .before .before .before .before .before .before .before .before .before .before .args in
-    let h = le-leb _ _ (c .before .before .before .before .before .before .before .before .before .if1 .taken) in
+    let a = c .before .before .before .before .before .before .before .before .before .before .before .args in
+    let h = le-leb _ _ (c .before .before .before .before .before .before .before .before .if1 .taken) in
     let k = eq-eqb _ _ (c .before .before .before .before .before .if2 .taken ∙ c .before .before .before .before .before .before .load-len .ensures ∙ sym (len-at (a .words .now))) in
     let e = c .before .before .receive-owned .ensures in
     (simp (h, k) (e .0), simp (h, k) (e .1), simp (h, k) (e .2))
@@ -33,8 +33,8 @@ returns c =
 returns-2 : tie.Need-returns-2
 unfolding rnicReceived rnicReceivedStore
 returns-2 c =
-    let a = c .before .before .before .before .before .before .before .args in
-    let h = le-leb _ _ (c .before .before .before .before .if1 .taken) in
+    let a = c .before .before .before .before .before .before .args in
+    let h = le-leb _ _ (c .before .before .before .if1 .taken) in
     let k = ne-eqb _ _ (λ e. c .if2 .left (e ∙ len-at (a .words .now) ∙ sym (c .before .load-len .ensures))) in
     (simp (h, k), simp (h, k), simp (h, k))
 

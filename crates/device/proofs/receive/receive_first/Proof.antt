@@ -39,11 +39,11 @@ judgedAs w d j h payload =
 abbrev taggedAs : List ℕ → ℕ → TaggedHeader → ℕ → Verdict
 taggedAs w d h len = taggedVerdict (windowAt (domainAt (rnicAt w) d .windows) (slotNamed (h .stag))) d h len
 
-tagged-as : (c : tie.After-judge-tagged-segment) → c .judge-tagged-segment .result ≡ taggedAs (c .before .before .before .before .before .before .before .before .before .before .before .args .words .now) (c .before .before .before .before .before .before .before .before .before .before .before .args .domain) (c .before .before .before .before .before .before .total .given .0 .1 .0) (c .before .before .before .before .before .before .total .given .0 .1 .1 .1 .0)
+tagged-as : (c : tie.After-judge-tagged-segment) → c .judge-tagged-segment .result ≡ taggedAs (c .before .before .before .before .before .before .before .before .before .before .args .words .now) (c .before .before .before .before .before .before .before .before .before .before .args .domain) (c .before .before .before .before .before .total .given .0 .1 .0) (c .before .before .before .before .before .total .given .0 .1 .1 .1 .0)
 tagged-as c =
-    let a = c .before .before .before .before .before .before .before .before .before .before .before .args in
-    let g = c .before .before .before .before .before .before .total .given .0 in
-    let window = c .before .load-window .ensures ∙ ap (loadedWindow (a .words .now) (a .domain)) (c .before .before .slot-named .ensures) ∙ sym (window-at (a .words .now) (a .domain) (c .before .before .before .before .before .before .before .before .before .before .before .pre .0) (slotNamed (g .1 .0 .stag)) (search needs)) in
+    let a = c .before .before .before .before .before .before .before .before .before .before .args in
+    let g = c .before .before .before .before .before .total .given .0 in
+    let window = c .before .load-window .ensures ∙ ap (loadedWindow (a .words .now) (a .domain)) (c .before .before .slot-named .ensures) ∙ sym (window-at (a .words .now) (a .domain) (c .before .before .before .before .before .before .before .before .before .before .pre .0) (slotNamed (g .1 .0 .stag)) (search needs)) in
     c .judge-tagged-segment .ensures ∙ ap (λ (x : Window). taggedVerdict x (a .domain) (g .1 .0) (g .1 .1 .1 .0)) window
 
 read-segment-requires : tie.Need-read-segment-requires
@@ -80,10 +80,10 @@ part-payload-start : tie.Need-part-payload-start
 part-payload-start c = search needs
 
 part-payload-end : tie.Need-part-payload-end
-part-payload-end c = omega (arith, inside _ _ _ (sym (c .before .before .before .before .before .before .total .given .1) ∙ c .before .before .before .before .before .before .before .before .read-segment .ensures))
+part-payload-end c = omega (arith, inside _ _ _ (sym (c .before .before .before .before .before .total .given .1) ∙ c .before .before .before .before .before .before .before .read-segment .ensures))
 
 apply-tagged-requires : tie.Need-apply-tagged-requires
-apply-tagged-requires c κs = (c .before .before .before .before .before .before .before .before .before .before .before .before .before .before .pre .0, c .before .before .before .before .before .before .before .before .before .before .before .before .before .before .pre .1, subst OfTagged (sym (tagged-as (c .before .before .before))) (of-tagged _ _ (c .before .before .before .before .before .before .before .before .before .total .given .0 .1 .0) _))
+apply-tagged-requires c κs = (c .before .before .before .before .before .before .before .before .before .before .before .before .before .pre .0, c .before .before .before .before .before .before .before .before .before .before .before .before .before .pre .1, subst OfTagged (sym (tagged-as (c .before .before .before))) (of-tagged _ _ (c .before .before .before .before .before .before .before .before .total .given .0 .1 .0) _))
 
 enum-known-total-2 : tie.Need-enum-known-total-2
 enum-known-total-2 c = search needs
@@ -127,16 +127,16 @@ same-length c = search needs
 
 returns-3 : tie.Need-returns-3
 returns-3 c =
-    let a = c .before .before .before .before .before .before .before .before .before .before .before .before .before .before .before .before .before .args in
-    let h = c .before .before .before .before .before .before .before .before .before .before .before .before .before .before .before .before .before .pre in
-    let g = c .before .before .before .before .before .before .before .before .before .before .before .before .total .given in
+    let a = c .before .before .before .before .before .before .before .before .before .before .before .before .before .before .before .before .args in
+    let h = c .before .before .before .before .before .before .before .before .before .before .before .before .before .before .before .before .pre in
+    let g = c .before .before .before .before .before .before .before .before .before .before .before .total .given in
     let w = a .words .now in
     let e = tagged-as (c .before .before .before .before .before .before) in
     let l = lent (a .bytes .now) (g .0 .1 .1 .0) (g .0 .1 .1 .1 .0) in
     let v = c .before .before .apply-tagged .last .0 in
     let done = told w (a .domain) (a .slot) (h .0) (h .1) (g .0 .0) (a .part .start) _ (a .store .now) v (sym e) (c .before .before .apply-tagged .ensures) in
     first-told (a .words .now) (a .domain) (a .slot) (a .part) (a .bytes .now) (a .store .now) v
-    (sym (g .1) ∙ c .before .before .before .before .before .before .before .before .before .before .before .before .before .before .read-segment .ensures)
+    (sym (g .1) ∙ c .before .before .before .before .before .before .before .before .before .before .before .before .before .read-segment .ensures)
     (done .0, done .1, done .2 ∙ ap (λ (payload : List ℕ). appliedBytes (a .part .start) (taggedAs w (a .domain) (g .0 .1 .0) (g .0 .1 .1 .1 .0)) payload (a .store .now)) l)
 
 same-length-2 : tie.Need-same-length-2

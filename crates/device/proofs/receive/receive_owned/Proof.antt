@@ -44,7 +44,7 @@ same-length c = search needs
 returns : tie.Need-returns
 unfolding receivedOwned receivedOwnedStore domainReceived domainReceivedBytes
 returns c =
-    let a = c .before .before .before .before .before .before .before .before .before .before .before .before .before .before .args in
+    let a = c .before .before .before .before .before .before .before .before .before .before .before .before .before .args in
     let own = c .before .before .before .before .before .before .before .before .before .load-part .ensures ∙ sym (part-at (a .words .now) _ (search needs)) in
     let fits = ap (λ (p : Part). partFits p (length (a .store .now))) (sym own) ∙ sym (c .before .before .before .before .before .before .before .before .fits-in .ensures) ∙ c .before .before .before .before .before .before .before .if1 .taken in
     let k = le-leb (a .stream % 4) 3 (omega arith) in
@@ -54,7 +54,7 @@ returns c =
 returns-2 : tie.Need-returns-2
 unfolding receivedOwned receivedOwnedStore
 returns-2 c =
-    let a = c .before .before .before .before .before .before .before .args in
+    let a = c .before .before .before .before .before .before .args in
     let own = c .before .before .load-part .ensures ∙ sym (part-at (a .words .now) _ (search needs)) in
     let fits = ap (λ (p : Part). partFits p (length (a .store .now))) (sym own) ∙ sym (c .before .fits-in .ensures) ∙ c .if1 .left in
     (simp fits, simp fits, simp fits)

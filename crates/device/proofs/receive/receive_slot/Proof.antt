@@ -27,8 +27,8 @@ enum-known-number c = search needs
 
 returns : tie.Need-returns
 returns c =
-    let a = c .before .before .before .before .before .before .before .before .before .args in
-    let h = c .before .before .before .before .before .before .before .before .before .pre in
+    let a = c .before .before .before .before .before .before .before .before .args in
+    let h = c .before .before .before .before .before .before .before .before .pre in
     not-ready (a .words .now) (a .domain) (a .slot) (a .part) (a .bytes .now) (a .store .now) (h .0) (h .1) _
     (ap readiness (sym (c .before .before .before .before .load-phase .ensures)) ∙ sym (c .before .before .before .ready .ensures) ∙ c .before .number .given .1)
 
@@ -43,10 +43,10 @@ same-length c = search needs
 
 returns-2 : tie.Need-returns-2
 returns-2 c =
-    let a = c .before .before .before .before .before .before .before .before .before .before .before .before .before .before .before .before .args in
-    let h = c .before .before .before .before .before .before .before .before .before .before .before .before .before .before .before .before .pre in
+    let a = c .before .before .before .before .before .before .before .before .before .before .before .before .before .before .args in
+    let h = c .before .before .before .before .before .before .before .before .before .before .before .before .before .before .pre in
     is-ready (a .words .now) (a .domain) (a .slot) (a .part) (a .bytes .now) (a .store .now) (h .0) (h .1) (c .before .before .receive-first .last .0) (c .before .before .before .before .before .load-framing .result)
-    (ap readiness (sym (c .before .before .before .before .before .before .before .before .before .before .before .load-phase .ensures)) ∙ sym (c .before .before .before .before .before .before .before .before .before .before .ready .ensures) ∙ c .before .before .before .before .before .before .before .before .enum-told .given .1)
+    (ap readiness (sym (c .before .before .before .before .before .before .before .before .before .before .load-phase .ensures)) ∙ sym (c .before .before .before .before .before .before .before .before .before .ready .ensures) ∙ c .before .before .before .before .before .before .before .enum-told .given .1)
     (c .before .before .before .before .before .load-framing .ensures) (c .before .before .receive-first .ensures)
 
 pub receive-slot-spec : {M : Type 1} → statement M

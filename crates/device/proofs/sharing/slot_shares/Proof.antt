@@ -14,8 +14,8 @@ load-head-requires c κs = search needs
 
 returns : tie.Need-returns
 returns c =
-    let a = c .before .before .before .before .args in
-    let h = c .before .before .before .before .pre in
+    let a = c .before .before .before .args in
+    let h = c .before .before .before .pre in
     let same = sends-of (a .words .now) (a .domain) (a .slot) (h .0) (h .1) in
     sym (none-waiting _ (a .place) (a .len) (ap (λ (x : Sends). x .buffers .count) same ∙ sym (ap (λ (x : Head). x .count) (c .before .before .load-head .ensures)) ∙ c .if1 .taken))
 
@@ -27,8 +27,8 @@ buffers-share-requires c κs = search needs
 
 returns-2 : tie.Need-returns-2
 returns-2 c =
-    let a = c .before .before .before .before .before .before .before .args in
-    let h = c .before .before .before .before .before .before .before .pre in
+    let a = c .before .before .before .before .before .args in
+    let h = c .before .before .before .before .before .pre in
     let same = sends-of (a .words .now) (a .domain) (a .slot) (h .0) (h .1) in
     c .buffers-share .ensures ∙ ap (λ (x : Sends). buffersShare (waiting (x .buffers)) (a .place) (a .len)) (c .before .load-sends .ensures ∙ sym same)
 

@@ -27,7 +27,7 @@ sub-i : tie.Need-sub-i Inv-loop μ-loop
 sub-i c = search needs
 
 load-window-requires : tie.Need-load-window-requires Inv-loop μ-loop
-load-window-requires c κs = (c .before .before .before .pre, search needs, search needs)
+load-window-requires c κs = search needs
 
 window-shares-requires : tie.Need-window-shares-requires Inv-loop μ-loop
 window-shares-requires c κs = search needs
@@ -37,11 +37,11 @@ loop-less c = search needs
 
 loop-again : tie.Need-loop-again Inv-loop μ-loop
 loop-again c =
-    let a = c .before .before .before .before .before .before .args in
-    let l = c .before .before .before .before .before .loop in
+    let a = c .before .before .before .before .before .args in
+    let l = c .before .before .before .before .loop in
     let back : l .i ≡ l .i - 1 + 1 = omega arith in (
       omega arith,
-      windows-next (a .words .now) (a .domain) (c .before .before .before .before .before .before .pre) (a .place) (a .len) (l .i - 1) true (l .shared) (omega arith)
+      windows-next (a .words .now) (a .domain) (c .before .before .before .before .before .pre) (a .place) (a .len) (l .i - 1) true (l .shared) (omega arith)
           (sym (c .if1 .taken) ∙ c .before .window-shares .ensures ∙ ap (λ (x : Window). windowShares x (a .place) (a .len)) (c .before .before .load-window .ensures))
           (l .inv .1 ∙ ap (λ (k : ℕ). windowsShare (drop k (windowsOf (a .words .now) (a .domain))) (a .place) (a .len)) back),
     )
@@ -51,11 +51,11 @@ loop-less-2 c = search needs
 
 loop-again-2 : tie.Need-loop-again-2 Inv-loop μ-loop
 loop-again-2 c =
-    let a = c .before .before .before .before .before .before .args in
-    let l = c .before .before .before .before .before .loop in
+    let a = c .before .before .before .before .before .args in
+    let l = c .before .before .before .before .loop in
     let back : l .i ≡ l .i - 1 + 1 = omega arith in (
       omega arith,
-      windows-next (a .words .now) (a .domain) (c .before .before .before .before .before .before .pre) (a .place) (a .len) (l .i - 1) false (l .shared) (omega arith)
+      windows-next (a .words .now) (a .domain) (c .before .before .before .before .before .pre) (a .place) (a .len) (l .i - 1) false (l .shared) (omega arith)
           (sym (c .if1 .left) ∙ c .before .window-shares .ensures ∙ ap (λ (x : Window). windowShares x (a .place) (a .len)) (c .before .before .load-window .ensures))
           (l .inv .1 ∙ ap (λ (k : ℕ). windowsShare (drop k (windowsOf (a .words .now) (a .domain))) (a .place) (a .len)) back),
     )

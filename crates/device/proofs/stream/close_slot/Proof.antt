@@ -22,8 +22,8 @@ is-closed-requires c κs = search needs
 
 returns : tie.Need-returns
 returns c =
-    let a = c .before .before .before .before .before .args in
-    let h = c .before .before .before .before .before .pre in
+    let a = c .before .before .before .before .args in
+    let h = c .before .before .before .before .pre in
     close-refused (a .words .now) (a .domain) (a .slot) (h .0) (h .1) (ap isClosed (sym (c .before .before .load-phase .ensures)) ∙ sym (c .before .is-closed .ensures) ∙ c .if1 .taken)
 
 load-head-requires : tie.Need-load-head-requires
@@ -36,17 +36,17 @@ closed-stream-requires : tie.Need-closed-stream-requires
 closed-stream-requires c κs = search needs
 
 store-stream-requires : tie.Need-store-stream-requires
-store-stream-requires c κs = (c .before .before .before .before .before .before .before .before .before .before .before .before .before .pre .0, c .before .before .before .before .before .before .before .before .before .before .before .before .before .pre .1, search needs)
+store-stream-requires c κs = search needs
 
 returns-2 : tie.Need-returns-2
 returns-2 c =
-    let a = c .before .before .before .before .before .before .before .before .before .before .before .before .before .before .args in
-    let h = c .before .before .before .before .before .before .before .before .before .before .before .before .before .before .pre in
-    let e = ap isClosed (sym (c .before .before .before .before .before .before .before .before .before .before .before .load-phase .ensures)) ∙ sym (c .before .before .before .before .before .before .before .before .before .before .is-closed .ensures) ∙ c .before .before .before .before .before .before .before .before .before .if1 .left in
+    let a = c .before .before .before .before .before .before .before .before .before .before .before .args in
+    let h = c .before .before .before .before .before .before .before .before .before .before .before .pre in
+    let e = ap isClosed (sym (c .before .before .before .before .before .before .before .before .before .load-phase .ensures)) ∙ sym (c .before .before .before .before .before .before .before .before .is-closed .ensures) ∙ c .before .before .before .before .before .before .before .if1 .left in
     let v = c .store-stream .last .0 in
     let stored = stream-changed (a .words .now) v (a .domain) (h .0) (search needs) (a .slot) (h .1) (c .before .closed-stream .result) (c .store-stream .ensures .0) (c .store-stream .ensures .1) in
     let done = close-done (a .words .now) (a .domain) (a .slot) (h .0) (h .1) v e (stored ∙ ap (λ (x : Stream). withStreamOf (rnicAt (a .words .now)) (a .domain) (a .slot) x) (c .before .closed-stream .ensures)) in
-    (ap₂ (λ (x y : ℕ). Closed x y) (ap (λ (x : Head). x .count) (c .before .before .before .before .before .before .load-head .ensures)) (ap (λ (x : Tally). x .count) (c .before .before .before .load-tally .ensures)) ∙ done .0, done .1)
+    (ap₂ (λ (x y : ℕ). Closed x y) (ap (λ (x : Head). x .count) (c .before .before .before .before .before .load-head .ensures)) (ap (λ (x : Tally). x .count) (c .before .before .before .load-tally .ensures)) ∙ done .0, done .1)
 
 pub close-slot-spec : {M : Type 1} → statement M
 close-slot-spec =

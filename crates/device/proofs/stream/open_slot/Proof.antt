@@ -24,8 +24,8 @@ store-stream-requires c κs = search needs
 
 returns : tie.Need-returns
 returns c =
-    let a = c .before .before .before .before .before .before .before .before .args in
-    let h = c .before .before .before .before .before .before .before .before .pre in
+    let a = c .before .before .before .before .before .before .before .args in
+    let h = c .before .before .before .before .before .before .before .pre in
     let e = ap isClosed (sym (c .before .before .before .before .before .load-phase .ensures)) ∙ sym (c .before .before .before .before .is-closed .ensures) ∙ c .before .before .before .if1 .taken in
     let v = c .store-stream .last .0 in
     let stored = stream-changed (a .words .now) v (a .domain) (h .0) (search needs) (a .slot) (h .1) (c .before .opened-stream .result) (c .store-stream .ensures .0) (c .store-stream .ensures .1) in
@@ -34,8 +34,8 @@ returns c =
 
 returns-2 : tie.Need-returns-2
 returns-2 c =
-    let a = c .before .before .before .before .before .args in
-    let h = c .before .before .before .before .before .pre in
+    let a = c .before .before .before .before .args in
+    let h = c .before .before .before .before .pre in
     open-refused (a .words .now) (a .domain) (a .slot) (h .0) (h .1) (a .crc) (ap isClosed (sym (c .before .before .load-phase .ensures)) ∙ sym (c .before .is-closed .ensures) ∙ c .if1 .left)
 
 pub open-slot-spec : {M : Type 1} → statement M

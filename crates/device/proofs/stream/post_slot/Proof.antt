@@ -23,8 +23,8 @@ enum-known-number c = search needs
 
 returns : tie.Need-returns
 returns c =
-    let a = c .before .before .before .before .before .before .before .args in
-    let h = c .before .before .before .before .before .before .before .pre in
+    let a = c .before .before .before .before .before .before .args in
+    let h = c .before .before .before .before .before .before .pre in
     post-refused (a .words .now) (a .domain) (a .slot) (h .0) (h .1) (a .start) (a .len) _
     (ap readiness (sym (c .before .before .before .before .load-phase .ensures)) ∙ sym (c .before .before .before .ready .ensures) ∙ c .before .number .given .1)
 
@@ -45,40 +45,40 @@ enum-known-outcome c = search needs
 
 returns-2 : tie.Need-returns-2
 returns-2 c =
-    let a = c .before .before .before .before .before .before .before .before .before .before .before .before .before .before .before .before .args in
-    let h = c .before .before .before .before .before .before .before .before .before .before .before .before .before .before .before .before .pre in
+    let a = c .before .before .before .before .before .before .before .before .before .before .before .before .before .args in
+    let h = c .before .before .before .before .before .before .before .before .before .before .before .before .before .pre in
     let p = c .before .before .before .post in
     post-kept (a .words .now) (a .domain) (a .slot) (h .0) (h .1) (a .start) (a .len) (p .result)
-    (ap readiness (sym (c .before .before .before .before .before .before .before .before .before .before .before .before .before .load-phase .ensures)) ∙ sym (c .before .before .before .before .before .before .before .before .before .before .before .before .ready .ensures) ∙ c .before .before .before .before .before .before .before .before .before .before .enum-told .given .1)
-    (p .ensures ∙ (λ i. postedSends (c .before .before .before .before .load-sends .ensures i) (c .before .before .before .before .before .before .before .load-part .ensures i) (a .start) (a .len))) _
+    (ap readiness (sym (c .before .before .before .before .before .before .before .before .before .before .before .load-phase .ensures)) ∙ sym (c .before .before .before .before .before .before .before .before .before .before .ready .ensures) ∙ c .before .before .before .before .before .before .before .before .enum-told .given .1)
+    (p .ensures ∙ (λ i. postedSends (c .before .before .before .before .load-sends .ensures i) (c .before .before .before .before .before .before .load-part .ensures i) (a .start) (a .len))) _
     (c .before .outcome .given .1)
 
 domain-shares-requires : tie.Need-domain-shares-requires
-domain-shares-requires c κs = omega (arith, c .before .before .before .before .before .before .before .before .before .before .before .before .before .before .before .before .pre .0)
+domain-shares-requires c κs = omega (arith, c .before .before .before .before .before .before .before .before .before .before .before .before .before .pre .0)
 
 returns-3 : tie.Need-returns-3
 returns-3 c =
-    let a = c .before .before .before .before .before .before .before .before .before .before .before .before .before .before .before .before .before .before .args in
-    let h = c .before .before .before .before .before .before .before .before .before .before .before .before .before .before .before .before .before .before .pre in
+    let a = c .before .before .before .before .before .before .before .before .before .before .before .before .before .before .before .args in
+    let h = c .before .before .before .before .before .before .before .before .before .before .before .before .before .before .before .pre in
     let p = c .before .before .before .before .before .post in
     post-shared (a .words .now) (a .domain) (a .slot) (h .0) (h .1) (a .start) (a .len) (p .result)
-    (ap readiness (sym (c .before .before .before .before .before .before .before .before .before .before .before .before .before .before .before .load-phase .ensures)) ∙ sym (c .before .before .before .before .before .before .before .before .before .before .before .before .before .before .ready .ensures) ∙ c .before .before .before .before .before .before .before .before .before .before .before .before .enum-told .given .1)
-    (p .ensures ∙ (λ i. postedSends (c .before .before .before .before .before .before .load-sends .ensures i) (c .before .before .before .before .before .before .before .before .before .load-part .ensures i) (a .start) (a .len)))
+    (ap readiness (sym (c .before .before .before .before .before .before .before .before .before .before .before .before .before .load-phase .ensures)) ∙ sym (c .before .before .before .before .before .before .before .before .before .before .before .before .ready .ensures) ∙ c .before .before .before .before .before .before .before .before .before .before .enum-told .given .1)
+    (p .ensures ∙ (λ i. postedSends (c .before .before .before .before .before .before .load-sends .ensures i) (c .before .before .before .before .before .before .before .before .load-part .ensures i) (a .start) (a .len)))
     (c .before .before .before .enum-told2 .given .1) (sym (c .before .domain-shares .ensures) ∙ c .if1 .taken)
 
 store-sends-requires : tie.Need-store-sends-requires
-store-sends-requires c κs = (c .before .before .before .before .before .before .before .before .before .before .before .before .before .before .before .before .before .before .before .pre .0, c .before .before .before .before .before .before .before .before .before .before .before .before .before .before .before .before .before .before .before .pre .1, search needs)
+store-sends-requires c κs = search needs
 
 returns-4 : tie.Need-returns-4
 returns-4 c =
-    let a = c .before .before .before .before .before .before .before .before .before .before .before .before .before .before .before .before .before .before .before .before .args in
-    let h = c .before .before .before .before .before .before .before .before .before .before .before .before .before .before .before .before .before .before .before .before .pre in
+    let a = c .before .before .before .before .before .before .before .before .before .before .before .before .before .before .before .before .before .args in
+    let h = c .before .before .before .before .before .before .before .before .before .before .before .before .before .before .before .before .before .pre in
     let v = c .store-sends .last .0 in
     let p = c .before .before .before .before .before .before .before .post in
     let stored = sends-changed (a .words .now) v (a .domain) (h .0) (search needs) (a .slot) (h .1) (p .result .sends) (c .store-sends .ensures .0) (c .store-sends .ensures .1) in
     post-done (a .words .now) (a .domain) (a .slot) (h .0) (h .1) (a .start) (a .len) (p .result)
-    (ap readiness (sym (c .before .before .before .before .before .before .before .before .before .before .before .before .before .before .before .before .before .load-phase .ensures)) ∙ sym (c .before .before .before .before .before .before .before .before .before .before .before .before .before .before .before .before .ready .ensures) ∙ c .before .before .before .before .before .before .before .before .before .before .before .before .before .before .enum-told .given .1)
-    (p .ensures ∙ (λ i. postedSends (c .before .before .before .before .before .before .before .before .load-sends .ensures i) (c .before .before .before .before .before .before .before .before .before .before .before .load-part .ensures i) (a .start) (a .len))) v
+    (ap readiness (sym (c .before .before .before .before .before .before .before .before .before .before .before .before .before .before .before .load-phase .ensures)) ∙ sym (c .before .before .before .before .before .before .before .before .before .before .before .before .before .before .ready .ensures) ∙ c .before .before .before .before .before .before .before .before .before .before .before .before .enum-told .given .1)
+    (p .ensures ∙ (λ i. postedSends (c .before .before .before .before .before .before .before .before .load-sends .ensures i) (c .before .before .before .before .before .before .before .before .before .before .load-part .ensures i) (a .start) (a .len))) v
     (c .before .before .before .before .before .enum-told2 .given .1) (sym (c .before .before .before .domain-shares .ensures) ∙ c .before .before .if1 .left) stored
 
 pub post-slot-spec : {M : Type 1} → statement M

@@ -30,8 +30,8 @@ enum-known-number c = search needs
 
 returns : tie.Need-returns
 returns c =
-    let a = c .before .before .before .before .before .before .before .args in
-    let h = c .before .before .before .before .before .before .before .pre in
+    let a = c .before .before .before .before .before .before .args in
+    let h = c .before .before .before .before .before .before .pre in
     take-refused (a .words .now) (a .domain) (a .slot) (h .0) (h .1) _
     (ap readiness (sym (c .before .before .before .before .load-phase .ensures)) ∙ sym (c .before .before .before .ready .ensures) ∙ c .before .number .given .1)
 
@@ -40,10 +40,10 @@ load-tally-requires c κs = search needs
 
 returns-2 : tie.Need-returns-2
 returns-2 c =
-    let a = c .before .before .before .before .before .before .before .before .before .before .before .args in
-    let h = c .before .before .before .before .before .before .before .before .before .before .before .pre in
+    let a = c .before .before .before .before .before .before .before .before .before .args in
+    let h = c .before .before .before .before .before .before .before .before .before .pre in
     take-none (a .words .now) (a .domain) (a .slot) (h .0) (h .1)
-    (ap readiness (sym (c .before .before .before .before .before .before .before .before .load-phase .ensures)) ∙ sym (c .before .before .before .before .before .before .before .ready .ensures) ∙ c .before .before .before .before .before .enum-told .given .1)
+    (ap readiness (sym (c .before .before .before .before .before .before .before .load-phase .ensures)) ∙ sym (c .before .before .before .before .before .before .ready .ensures) ∙ c .before .before .before .before .enum-told .given .1)
     (ap (λ (x : Tally). eqb (x .count) 0) (sym (c .before .before .load-tally .ensures)) ∙ eq-eqb _ _ (c .if1 .taken))
 
 load-reads-requires : tie.Need-load-reads-requires
@@ -56,18 +56,18 @@ popped-requires : tie.Need-popped-requires
 popped-requires c κs = search needs
 
 store-reads-requires : tie.Need-store-reads-requires
-store-reads-requires c κs = (c .before .before .before .before .before .before .before .before .before .before .before .before .before .before .before .before .before .pre .0, c .before .before .before .before .before .before .before .before .before .before .before .before .before .before .before .before .before .pre .1, search needs)
+store-reads-requires c κs = search needs
 
 returns-3 : tie.Need-returns-3
 returns-3 c =
-    let a = c .before .before .before .before .before .before .before .before .before .before .before .before .before .before .before .before .before .before .args in
-    let h = c .before .before .before .before .before .before .before .before .before .before .before .before .before .before .before .before .before .before .pre in
+    let a = c .before .before .before .before .before .before .before .before .before .before .before .before .before .before .before .args in
+    let h = c .before .before .before .before .before .before .before .before .before .before .before .before .before .before .before .pre in
     let w = a .words .now in
     let v = c .store-reads .last .0 in
     let r = c .before .before .before .before .load-reads .ensures in
     let stored = reads-changed w v (a .domain) (h .0) (search needs) (a .slot) (h .1) (c .before .popped .result) (c .store-reads .ensures .0) (c .store-reads .ensures .1) in
-    let e = ap (λ (x : Tally). eqb (x .count) 0) (sym (c .before .before .before .before .before .before .before .before .before .load-tally .ensures)) ∙ ne-eqb _ _ (c .before .before .before .before .before .before .before .if1 .left) in
-    let ready = ap readiness (sym (c .before .before .before .before .before .before .before .before .before .before .before .before .before .before .before .load-phase .ensures)) ∙ sym (c .before .before .before .before .before .before .before .before .before .before .before .before .before .before .ready .ensures) ∙ c .before .before .before .before .before .before .before .before .before .before .before .before .enum-told .given .1 in
+    let e = ap (λ (x : Tally). eqb (x .count) 0) (sym (c .before .before .before .before .before .before .before .before .load-tally .ensures)) ∙ ne-eqb _ _ (c .before .before .before .before .before .before .if1 .left) in
+    let ready = ap readiness (sym (c .before .before .before .before .before .before .before .before .before .before .before .before .before .load-phase .ensures)) ∙ sym (c .before .before .before .before .before .before .before .before .before .before .before .before .ready .ensures) ∙ c .before .before .before .before .before .before .before .before .before .before .enum-told .given .1 in
     let done = take-first w (a .domain) (a .slot) (h .0) (h .1) v ready e (stored ∙ ap (λ (x : Reads). withStreamOf (rnicAt w) (a .domain) (a .slot) (withReads (streamOf (rnicAt w) (a .domain) (a .slot)) x)) (c .before .popped .ensures ∙ ap poppedReads r)) in
     (ap Read (c .before .before .before .first .ensures ∙ ap firstRead r) ∙ done .0, done .1)
 

@@ -16,12 +16,12 @@ drop-in-requires : tie.Need-drop-in-requires
 drop-in-requires c κs = search needs
 
 store-window-requires : tie.Need-store-window-requires
-store-window-requires c κs = (c .before .before .before .before .before .before .pre .0, c .before .before .before .before .before .before .pre .1, search needs)
+store-window-requires c κs = search needs
 
 returns : tie.Need-returns
 returns c =
-    let a = c .before .before .before .before .before .before .before .args in
-    let h = c .before .before .before .before .before .before .before .pre in
+    let a = c .before .before .before .before .before .before .args in
+    let h = c .before .before .before .before .before .before .pre in
     let w = a .words .now in
     let v = c .store-window .last .0 in
     let done = c .before .before .before .drop-in in

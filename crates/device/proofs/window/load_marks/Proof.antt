@@ -23,7 +23,7 @@ sub-i : tie.Need-sub-i Inv-loop μ-loop
 sub-i c = search needs
 
 load-live-requires : tie.Need-load-live-requires Inv-loop μ-loop
-load-live-requires c κs = (c .before .before .before .pre, search needs, search needs)
+load-live-requires c κs = search needs
 
 push-requires : tie.Need-push-requires Inv-loop μ-loop
 push-requires c κs = search needs
@@ -33,13 +33,13 @@ loop-less c = search needs
 
 loop-again : tie.Need-loop-again Inv-loop μ-loop
 loop-again c =
-    let a = c .before .before .before .before .before .args in
-    let l = c .before .before .before .before .loop in
+    let a = c .before .before .before .before .args in
+    let l = c .before .before .before .loop in
     let back : l .i ≡ l .i - 1 + 1 = omega arith in (
       omega arith,
       c .push .ensures
           ∙ ap (λ (t : Bool). pushed (l .marks) t) (c .before .load-live .ensures)
-          ∙ marks-next (a .words .now) (a .domain) (c .before .before .before .before .before .pre) (l .i - 1) (l .marks) (omega arith)
+          ∙ marks-next (a .words .now) (a .domain) (c .before .before .before .before .pre) (l .i - 1) (l .marks) (omega arith)
           (l .inv .1 ∙ ap (λ (k : ℕ). liveMarks (drop k (windowsOf (a .words .now) (a .domain)))) back),
     )
 

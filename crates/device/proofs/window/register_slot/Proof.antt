@@ -24,11 +24,11 @@ enum-known-outcome c = search needs
 
 returns : tie.Need-returns
 returns c =
-    let a = c .before .before .before .before .before .before .before .before .before .before .args in
-    let h = c .before .before .before .before .before .before .before .before .before .before .pre in
+    let a = c .before .before .before .before .before .before .before .before .args in
+    let h = c .before .before .before .before .before .before .before .before .pre in
     let x = c .before .before .before .register-in in
     register-kept (a .words .now) (a .domain) (a .slot) (h .0) (h .1) (a .key) (a .base) (a .len) (a .place) (a .rights) (x .result)
-    (x .ensures ∙ (λ i. registeredIn (c .before .before .before .before .before .before .before .load-window .ensures i) (c .before .before .before .before .load-part .ensures i) (a .key) (a .base) (a .len) (a .place) (a .rights))) _
+    (x .ensures ∙ (λ i. registeredIn (c .before .before .before .before .before .before .load-window .ensures i) (c .before .before .before .before .load-part .ensures i) (a .key) (a .base) (a .len) (a .place) (a .rights))) _
     (c .before .outcome .given .1)
 
 write-shares-requires : tie.Need-write-shares-requires
@@ -36,11 +36,11 @@ write-shares-requires c κs = search needs
 
 returns-2 : tie.Need-returns-2
 returns-2 c =
-    let a = c .before .before .before .before .before .before .before .before .before .before .before .before .args in
-    let h = c .before .before .before .before .before .before .before .before .before .before .before .before .pre in
+    let a = c .before .before .before .before .before .before .before .before .before .before .args in
+    let h = c .before .before .before .before .before .before .before .before .before .before .pre in
     let x = c .before .before .before .before .before .register-in in
     register-shared (a .words .now) (a .domain) (a .slot) (h .0) (h .1) (a .key) (a .base) (a .len) (a .place) (a .rights) (x .result)
-    (x .ensures ∙ (λ i. registeredIn (c .before .before .before .before .before .before .before .before .before .load-window .ensures i) (c .before .before .before .before .before .before .load-part .ensures i) (a .key) (a .base) (a .len) (a .place) (a .rights)))
+    (x .ensures ∙ (λ i. registeredIn (c .before .before .before .before .before .before .before .before .load-window .ensures i) (c .before .before .before .before .before .before .load-part .ensures i) (a .key) (a .base) (a .len) (a .place) (a .rights)))
     (c .before .before .before .enum-told .given .1) (sym (c .before .write-shares .ensures) ∙ c .if1 .taken)
 
 store-window-requires : tie.Need-store-window-requires
@@ -48,13 +48,13 @@ store-window-requires c κs = search needs
 
 returns-3 : tie.Need-returns-3
 returns-3 c =
-    let a = c .before .before .before .before .before .before .before .before .before .before .before .before .before .before .args in
-    let h = c .before .before .before .before .before .before .before .before .before .before .before .before .before .before .pre in
+    let a = c .before .before .before .before .before .before .before .before .before .before .before .before .args in
+    let h = c .before .before .before .before .before .before .before .before .before .before .before .before .pre in
     let v = c .store-window .last .0 in
     let x = c .before .before .before .before .before .before .before .register-in in
     let stored = window-changed (a .words .now) v (a .domain) (h .0) (search needs) (a .slot) (h .1) (x .result .window) (c .store-window .ensures .0) (c .store-window .ensures .1) in
     register-done (a .words .now) (a .domain) (a .slot) (h .0) (h .1) (a .key) (a .base) (a .len) (a .place) (a .rights) (x .result)
-    (x .ensures ∙ (λ i. registeredIn (c .before .before .before .before .before .before .before .before .before .before .before .load-window .ensures i) (c .before .before .before .before .before .before .before .before .load-part .ensures i) (a .key) (a .base) (a .len) (a .place) (a .rights))) v
+    (x .ensures ∙ (λ i. registeredIn (c .before .before .before .before .before .before .before .before .before .before .load-window .ensures i) (c .before .before .before .before .before .before .before .before .load-part .ensures i) (a .key) (a .base) (a .len) (a .place) (a .rights))) v
     (c .before .before .before .before .before .enum-told .given .1) (sym (c .before .before .before .write-shares .ensures) ∙ c .before .before .if1 .left) stored
 
 pub register-slot-spec : {M : Type 1} → statement M
