@@ -39,7 +39,10 @@ struct rnic {
 #define RNIC_C_RECEIVE_STACK 12288
 #define RNIC_C_CRC32C_STACK 12288
 #define RNIC_C_CRC32C_UPDATE_STACK 12288
-#define RNIC_C_CRC32C_JOIN_STACK 1024
+#define RNIC_C_CRC32C_JOIN_STACK 4096
+#define RNIC_C_MESSAGE_STACK 1024
+#define RNIC_C_MESSAGE_NEXT_STACK 2048
+#define RNIC_C_FPDU_WRITE_STACK 12288
 
 /* How many numbers a call takes, and how many words its answer has. */
 #define RNIC_C_ARGUMENTS 9
@@ -94,6 +97,47 @@ uint32_t rnic_c_crc32c_update(uint32_t running, const uint8_t *bytes, size_t byt
 
 /* The CRC-32C of two pieces together, from the CRC-32C of each, the first's first, and the second's length in bytes. */
 uint32_t rnic_c_crc32c_join(uint32_t first, uint32_t second, uint32_t second_length);
+
+/* ---- What the caller sends. A message, a Write or one of the four Sends, is begun, and asked for one segment after the
+ * other; a segment is a ULPDU, which goes out as an FPDU. None of this looks at a device. */
+
+/* How many words a message under way has, and how many an answer of the writers. */
+#define RNIC_C_MESSAGE_WORDS 9
+#define RNIC_C_WRITTEN_WORDS 2
+
+/* A message under way, without its bytes, which the caller keeps as they are until its last segment is written. Any words are
+ * a message, and it can be copied, saved and read back as a device can. */
+struct rnic_message {
+    uint64_t words[RNIC_C_MESSAGE_WORDS];
+};
+
+/* Word 0 of a writer's answer, and word 1. */
+enum rnic_written {
+    RNIC_NOT_WRITTEN = 0, /* a refusal's number; the output keeps its bytes, and a segment stays next */
+    RNIC_WROTE = 1,       /* how many bytes, from the start of the output; the others stay */
+    RNIC_NO_MORE = 2      /* 0: the message's last segment was written before */
+};
+
+/* Begins a Write of so many bytes to an STag and a tagged offset, in ULPDUs of at most limit bytes. It answers 0, or a
+ * refusal's number, and then *message stays: 1 for a limit below 19, an STag or a length over 2^32 - 1, or an end past 2^64;
+ * 12 for a limit above 2,048. */
+uint32_t rnic_c_message_write(struct rnic_message *message, uint64_t limit, uint64_t stag, uint64_t to, uint64_t length);
+
+/* Begins a Send: opcode 3, 4 with Invalidate, 5 with Solicited Event, 6 with both. The STag is the one to invalidate, and is
+ * looked at for 4 and 6 alone; the other two are written with 0. It answers as above, and 1 for an opcode that is no Send's
+ * and an MSN over 2^32 - 1, too. */
+uint32_t rnic_c_message_send(struct rnic_message *message, uint64_t limit, uint64_t opcode, uint64_t msn, uint64_t stag,
+                             uint64_t length);
+
+/* Writes the next segment of a message to the start of out, lent all of the message's bytes at each call. Refused: 1 where
+ * they are not as many as it was begun with, 13 where out is too short for the segment. */
+void rnic_c_message_next(struct rnic_message *message, const uint8_t *bytes, size_t bytes_length, uint8_t *out,
+                         size_t out_length, uint64_t answer[RNIC_C_WRITTEN_WORDS]);
+
+/* Writes the FPDU of a ULPDU to the start of out: its length, the ULPDU, the pad and the CRC. Refused: 12 for a ULPDU over
+ * 2,048 bytes, 13 where out is too short. */
+void rnic_c_fpdu_write(const uint8_t *ulpdu, size_t ulpdu_length, uint8_t *out, size_t out_length,
+                       uint64_t answer[RNIC_C_WRITTEN_WORDS]);
 
 #ifdef __cplusplus
 }

@@ -113,6 +113,72 @@ static void check_crc(void) {
     }
 }
 
+_Static_assert(sizeof(struct rnic_message) == 8 * RNIC_C_MESSAGE_WORDS, "a message is its words");
+
+/* Says what is wrong where a number is not the one expected. */
+static void expect_number(const char *what, uint64_t got, uint64_t number) {
+    if (got != number) {
+        printf("%s: %llu\n", what, (unsigned long long)got);
+        wrong = 1;
+    }
+}
+
+/* Asks for the next segment, in so much room. */
+static void next(const char *what, struct rnic_message *message, const uint8_t *bytes, size_t length, uint8_t *out,
+                 size_t room, uint64_t kind, uint64_t first) {
+    uint64_t answer[RNIC_C_WRITTEN_WORDS];
+    rnic_c_message_next(message, bytes, length, out, room, answer);
+    expect_number(what, answer[0], kind);
+    expect_number(what, answer[1], first);
+}
+
+/* A Send of 2,048 bytes at 1,500: 1,482 and 566. Refusals leave the message before, and the output as it is. */
+static void check_message(void) {
+    static uint8_t bytes[2048], out[2048], frame[2056];
+    struct rnic_message three[3], *message = &three[1], kept;
+    uint64_t answer[RNIC_C_WRITTEN_WORDS];
+    memset(three, 0xA5, sizeof three);
+    memset(bytes, 'm', sizeof bytes);
+    memset(out, 0xA5, sizeof out);
+    expect_number("message_send", rnic_c_message_send(message, 1500, 3, 1, ~0ull, sizeof bytes), 0);
+    if (three[0].words[8] != three[2].words[0] || three[0].words[8] != 0xA5A5A5A5A5A5A5A5) {
+        puts("message_send: words beside the message");
+        wrong = 1;
+    }
+    kept = *message;
+    expect_number("message_send, opcode", rnic_c_message_send(message, 1500, 7, 1, 0, 5), 1);
+    expect_number("message_write, limit", rnic_c_message_write(message, 18, 0, 0, 5), 1);
+    expect_number("message_write, end", rnic_c_message_write(message, 40, 0, ~0ull, 2), 1);
+    expect_number("message_write, above", rnic_c_message_write(message, 2049, 0, 0, 5), 12);
+    next("message_next, length", message, bytes, 2047, out, sizeof out, RNIC_NOT_WRITTEN, 1);
+    next("message_next, room", message, bytes, 2048, out, 1499, RNIC_NOT_WRITTEN, 13);
+    if (memcmp(&kept, message, sizeof kept) != 0 || out[0] != 0xA5) {
+        puts("a refusal changed the message or the output");
+        wrong = 1;
+    }
+    next("message_next", message, bytes, 2048, out, 1500, RNIC_WROTE, 1500);
+    rnic_c_fpdu_write(out, 1500, frame, sizeof frame, answer);
+    expect_number("fpdu_write", answer[0], RNIC_WROTE);
+    expect_number("fpdu_write, length", answer[1], 1508);
+    if (out[0] != 0x01 || out[1] != 0x43 || out[5] != 0 || out[13] != 1 || out[1499] != 'm' || out[1500] != 0xA5) {
+        puts("message_next: not the segment");
+        wrong = 1;
+    }
+    next("message_next, last", message, bytes, 2048, out, 584, RNIC_WROTE, 584);
+    if (out[0] != 0x41 || out[16] != 1482 / 256 || out[17] != 1482 % 256) {
+        puts("message_next: not the last segment");
+        wrong = 1;
+    }
+    next("message_next, after", message, bytes, 2048, out, 0, RNIC_NO_MORE, 0);
+    rnic_c_fpdu_write(frame, 2049, out, 0, answer);
+    expect_number("fpdu_write, too long", answer[1], 12);
+    rnic_c_fpdu_write(bytes, 2048, frame, 2055, answer);
+    expect_number("fpdu_write, room", answer[1], 13);
+    expect_number("message_write", rnic_c_message_write(message, 19, 7, 8, 0), 0);
+    next("message_next, empty", message, bytes, 0, out, 14, RNIC_WROTE, 14);
+    expect_number("message_next, empty", out[0], 0xC1);
+}
+
 int main(void) {
     uint64_t a[RNIC_C_ARGUMENTS] = {STORE, 0, 1024, 1024, 2048, 2048, 3072, 3072, STORE}, answer[RNIC_C_WORDS];
     check_words();
@@ -134,6 +200,7 @@ int main(void) {
     call("drop_window", RNIC_DROP_WINDOW, 0, 0, 0, 0, 0, 0, RNIC_DONE, 0, 0);
     call("close_stream", RNIC_CLOSE_STREAM, 0, 0, 0, 0, 0, 0, RNIC_CLOSED, 1, 0);
     check_crc();
+    check_message();
     call("no call", 10, 0, 0, 0, 0, 0, 0, RNIC_REFUSED, 1, 0);
     if (!wrong) {
         puts("ok");

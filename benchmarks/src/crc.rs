@@ -71,7 +71,10 @@ fn row(length: usize, one: Option<f64>, eight: Option<f64>) {
 fn joined(length: u32) {
     let (first, second) = (0x1234_5678, 0x9ABC_DEF0);
     let ways: [fn(u32, u32, u32) -> u32; 2] = [host::crc32c_join, pieces::join];
-    assert_eq!(ways[0](first, second, length), ways[1](first, second, length));
+    assert_eq!(
+        ways[0](first, second, length),
+        ways[1](first, second, length)
+    );
     let mut contenders = ways.map(|way| {
         repeated(move || {
             black_box(way(black_box(first), black_box(second), black_box(length)));
@@ -108,7 +111,10 @@ mod processor {
         let mut crc = u64::from(!0u32);
         let mut chunks = bytes.chunks_exact(8);
         for chunk in &mut chunks {
-            crc = _mm_crc32_u64(crc, u64::from_le_bytes(chunk.try_into().expect("eight bytes")));
+            crc = _mm_crc32_u64(
+                crc,
+                u64::from_le_bytes(chunk.try_into().expect("eight bytes")),
+            );
         }
         let last = |crc: u32, byte: &u8| _mm_crc32_u8(crc, *byte);
         !chunks.remainder().iter().fold(crc as u32, last)

@@ -9,6 +9,7 @@ mod count;
 mod crc;
 mod growth;
 mod measure;
+mod messages;
 mod nights;
 mod receive;
 mod receiver;
@@ -46,6 +47,7 @@ fn write() {
         scene::FRAMES * scene::SEND_STREAMS,
     );
     crc::write();
+    messages::write();
     receive::write();
     calls::write();
     refusals::write();

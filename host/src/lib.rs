@@ -26,11 +26,15 @@
 //! assert_eq!(store[1024..1028], [0xDE, 0xAD, 0xBE, 0xEF]);
 //! # Ok::<(), host::Error>(())
 //! ```
+//!
+//! A [`Message`] is the other side: what a program sends, one segment after the other, each framed by [`write_fpdu`].
 
 mod answer;
 mod device;
+mod message;
 pub mod raw;
 mod words;
 
 pub use answer::{Closed, Error, Event, Fault, ReadRequest, Received};
 pub use device::{crc32c, crc32c_join, crc32c_update, Device, Window, RIGHT_READ, RIGHT_WRITE};
+pub use message::{write_fpdu, Message};

@@ -22,6 +22,23 @@ pub type Arguments = [u64; 9];
 /// The eight words of an answer, the first its kind and those without a use 0.
 pub type Words = [u64; 8];
 
+/// A message under way, `struct rnic_message` of the header. Any words are one.
+#[derive(Clone, Copy, Debug, PartialEq, Eq)]
+#[repr(C)]
+pub struct RnicMessage {
+    pub words: [u64; 9],
+}
+
+/// The two words of a writer's answer, its kind and its number.
+pub type Written = [u64; 2];
+
+/// The kinds of the writers' answers.
+pub mod written {
+    pub const NOT_WRITTEN: u64 = 0;
+    pub const WROTE: u64 = 1;
+    pub const NO_MORE: u64 = 2;
+}
+
 /// The numbers of the calls.
 pub mod call {
     pub const OPEN: u64 = 0;
@@ -99,4 +116,55 @@ extern "C" {
     /// # Safety
     /// It takes numbers alone: any will do.
     pub fn rnic_c_crc32c_join(first: u32, second: u32, second_len: u32) -> u32;
+
+    /// Begins a Write: 0, or a refusal's number.
+    ///
+    /// # Safety
+    /// `message` points at a value that nothing else uses meanwhile.
+    pub fn rnic_c_message_write(
+        message: *mut RnicMessage,
+        limit: u64,
+        stag: u64,
+        to: u64,
+        length: u64,
+    ) -> u32;
+
+    /// Begins a Send: 0, or a refusal's number.
+    ///
+    /// # Safety
+    /// As for `rnic_c_message_write`.
+    pub fn rnic_c_message_send(
+        message: *mut RnicMessage,
+        limit: u64,
+        opcode: u64,
+        msn: u64,
+        stag: u64,
+        length: u64,
+    ) -> u32;
+
+    /// Writes the next segment of a message, lent all of its bytes, to the start of `out`.
+    ///
+    /// # Safety
+    /// `message` and `answer` point at values that nothing else uses meanwhile, `bytes` at `bytes_len` bytes and `out`
+    /// at `out_len`, none of which overlap; a length of 0 needs a pointer that is not null.
+    pub fn rnic_c_message_next(
+        message: *mut RnicMessage,
+        bytes: *const u8,
+        bytes_len: usize,
+        out: *mut u8,
+        out_len: usize,
+        answer: *mut Written,
+    );
+
+    /// Writes the FPDU of a ULPDU to the start of `out`.
+    ///
+    /// # Safety
+    /// As for `rnic_c_message_next`.
+    pub fn rnic_c_fpdu_write(
+        ulpdu: *const u8,
+        ulpdu_len: usize,
+        out: *mut u8,
+        out_len: usize,
+        answer: *mut Written,
+    );
 }

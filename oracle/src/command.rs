@@ -86,6 +86,22 @@ pub enum Command {
         second: u32,
         length: u32,
     },
+    MessageWrite {
+        limit: u64,
+        stag: u64,
+        to: u64,
+        bytes: Vec<u8>,
+    },
+    MessageSend {
+        limit: u64,
+        opcode: u64,
+        msn: u64,
+        stag: u64,
+        bytes: Vec<u8>,
+    },
+    Segment {
+        room: u64,
+    },
 }
 
 /// Reads one line without its newline.
@@ -107,6 +123,7 @@ pub fn parse(line: &[u8]) -> Line {
         .or_else(|| store_command(&words))
         .or_else(|| frame_command(&words))
         .or_else(|| crc_command(&words))
+        .or_else(|| message_command(&words))
         .map_or(Line::Bad, Line::Command)
 }
 
@@ -209,6 +226,29 @@ fn crc_command(words: &[&[u8]]) -> Option<Command> {
             first: crc(first)?,
             second: crc(second)?,
             length: number(length)?.try_into().ok()?,
+        },
+        _ => return None,
+    })
+}
+
+/// Reads the commands that write messages.
+fn message_command(words: &[&[u8]]) -> Option<Command> {
+    Some(match *words {
+        [b"message", b"write", limit, stag, to, bytes] => Command::MessageWrite {
+            limit: number(limit)?,
+            stag: number(stag)?,
+            to: number(to)?,
+            bytes: hex::decode(bytes)?,
+        },
+        [b"message", b"send", limit, opcode, msn, stag, bytes] => Command::MessageSend {
+            limit: number(limit)?,
+            opcode: number(opcode)?,
+            msn: number(msn)?,
+            stag: number(stag)?,
+            bytes: hex::decode(bytes)?,
+        },
+        [b"segment", room] => Command::Segment {
+            room: number(room)?,
         },
         _ => return None,
     })

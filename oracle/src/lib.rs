@@ -2,7 +2,7 @@
 //!
 //! The wire forms (`crc`, `pieces`, `mpa`, `startup`, `ddp`, `rdmap`) know nothing of the state. Read `state` first, then
 //! `device` for the calls, with `sharing`, and `receive`, whose rules stand in `judge` and `target`. `script` runs the lines
-//! that `command` takes apart; `generate` writes random ones.
+//! that `command` takes apart; `generate` writes random ones. `sender` writes messages, and knows nothing of the device.
 
 pub mod bigendian;
 pub mod command;
@@ -19,6 +19,7 @@ pub mod rdmap;
 pub mod receive;
 pub mod refusal;
 pub mod script;
+pub mod sender;
 mod sharing;
 pub mod startup;
 pub mod state;

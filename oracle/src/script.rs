@@ -8,6 +8,7 @@ use crate::hex;
 use crate::mpa::{read_fpdu, write_fpdu, Frame};
 use crate::pieces::{carry_on, join};
 use crate::refusal::Refusal;
+use crate::sender::Message;
 use crate::startup::{read_startup, write_startup, Startup};
 use crate::state::Device;
 use crate::text::{answer_text, bad, crc_text, done, read_text, refused};
@@ -18,11 +19,12 @@ pub const STORE: usize = 1_048_576;
 /// The most bytes of an output slice.
 const MAX_ROOM: u64 = 65_536;
 
-/// A device with the program's store and the count of bytes that it lends.
+/// A device with the program's store, the count of bytes that it lends, and the message begun last.
 pub struct Interpreter {
     pub device: Device,
     pub store: Vec<u8>,
     lent: usize,
+    message: Option<Message>,
 }
 
 impl Default for Interpreter {
@@ -39,6 +41,7 @@ impl Interpreter {
             device: Device::default(),
             store: vec![0; size],
             lent: 0,
+            message: None,
         }
     }
 
@@ -92,6 +95,20 @@ impl Interpreter {
             Command::Free(domain) => format!("free {}", device.free(domain)?),
             Command::Bytes { start, length } => self.show(start, length),
             Command::Fill { start, bytes } => self.fill(start, &bytes),
+            Command::MessageWrite {
+                limit,
+                stag,
+                to,
+                bytes,
+            } => self.begin(Message::write(limit, stag, to, bytes))?,
+            Command::MessageSend {
+                limit,
+                opcode,
+                msn,
+                stag,
+                bytes,
+            } => self.begin(Message::send(limit, opcode, msn, stag, bytes))?,
+            Command::Segment { room } => self.segment(room)?,
             stateless => return frame(stateless),
         })
     }
@@ -104,6 +121,28 @@ impl Interpreter {
         }
         let store = &mut self.store[..lent as usize];
         answer_text(self.device.receive(store, stream, bytes))
+    }
+
+    /// Keeps a message that was begun; a refused one leaves the one before.
+    fn begin(&mut self, begun: Result<Message, Refusal>) -> Result<String, Refusal> {
+        self.message = Some(begun?);
+        Ok(String::from("done"))
+    }
+
+    /// Writes the next segment of the message begun last.
+    fn segment(&mut self, room: u64) -> Result<String, Refusal> {
+        let mut out = vec![0; room.min(MAX_ROOM) as usize];
+        let next = self.message.as_mut().map(|message| message.next(&mut out));
+        Ok(match next.transpose()?.flatten() {
+            Some(length) => format!("wrote {length} {}", hex::encode(&out[..length])),
+            None => String::from("end"),
+        })
+    }
+
+    /// Gives the length of the segment that is next, 0 where there is none.
+    pub(crate) fn next_segment(&self) -> usize {
+        let next = self.message.as_ref().and_then(Message::next_length);
+        next.unwrap_or(0)
     }
 
     /// Shows bytes of the store.

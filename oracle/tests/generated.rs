@@ -1,6 +1,6 @@
 //! The random scripts: the same for the same seed, and reaching every answer.
 
-use oracle::generate::{frames, nights};
+use oracle::generate::{frames, messages, nights};
 use oracle::script::run;
 use oracle::state::{DOMAINS, STREAMS_PER_DOMAIN};
 use oracle::tally::{refusals, Tally};
@@ -27,6 +27,32 @@ fn night_script(seed: u64, count: u64) -> Vec<u8> {
     let mut script = Vec::new();
     nights::write_script(seed, count, &mut script).unwrap();
     script
+}
+
+/// Writes a script of messages.
+fn message_script(seed: u64, count: u64) -> Vec<u8> {
+    let mut script = Vec::new();
+    messages::write_script(seed, count, &mut script).unwrap();
+    script
+}
+
+#[test]
+fn messages_reach_every_answer() {
+    let script = message_script(7, 20_000);
+    assert!(script == message_script(7, 20_000));
+    assert_eq!(script.iter().filter(|&&byte| byte == b'\n').count(), 20_000);
+    assert!(script.len() < 15_000_000);
+    let tally = tally(&script);
+    for (command, kinds) in [
+        ("message", &["done", "refused 1", "refused 12"][..]),
+        ("segment", &["wrote", "end", "refused 13"]),
+        ("receive", &["taken", "taken send", "taken send stag"]),
+        ("-", &["bad"]),
+    ] {
+        for kind in kinds {
+            assert!(tally.count(command, kind) > 50, "{command}: {kind}");
+        }
+    }
 }
 
 #[test]

@@ -272,7 +272,7 @@ pub fn find_in(w: Window, domain: u64, stag: u32) -> Found
 }
 
 // Whether to + len is above 2^64.
-fn wraps_around(to: u64, len: u64) -> bool
+pub fn wraps_around(to: u64, len: u64) -> bool
     ensures { λ r. ⌜ r ≡ wraps to len ⌝ }
 {
     if len == 0 {

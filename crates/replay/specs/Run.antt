@@ -1,14 +1,17 @@
 -- What a line of a script does to what a run holds, and to the store.
 -- Assumes nothing.
 use Prim.Native.Nat.{ℕ, min}
+use mathlib.Core.Bool.{Bool}
 use mathlib.Core.List.{List, _++_}
 use lib.ListN.{length, take, drop}
 use lib.Dec.{leb}
-use Rattle.wire.specs.Wire.{pick, put}
+use Rattle.wire.specs.Wire.{pick, both, put}
 use Rattle.rnic.specs.Rnic.{openedRnic}
 use Rattle.rnic.specs.declared.Rnic.{Rnic}
 use Rattle.block.specs.Device.{rnicAt}
 use Rattle.calls.specs.Call.{called, calledStore}
+use Rattle.command.specs.Args.{lineWords, wordOf}
+use Rattle.sending.specs.Sending.{isOrder, messageAfter, heldAfter}
 use Rattle.request.specs.Request.{Request, requestOf}
 use Rattle.request.specs.Request.Request.{call, fill, text}
 
@@ -43,3 +46,14 @@ storeThen s (call number numbers input lent kept) store =
     calledStore (s .rnic) number numbers input (take (min lent (length store)) store) ++ drop (min lent (length store)) store
 storeThen s (fill start bytes) store = put store start bytes
 storeThen s text store = store
+
+-- whether a line of `count` bytes is a command on messages, good or bad; such a line asks nothing of the device and the store
+abbrev pub lineSends : List ℕ → ℕ → Bool
+lineSends buffer count = both (leb count (length buffer)) (isOrder (wordOf (lineWords (take count buffer)) 0))
+
+-- the message begun last then, its words and its bytes in front of a buffer: no other line touches it, nor does `open`
+abbrev pub lineMessage : List ℕ → ℕ → ℕ → ℕ → List ℕ → ℕ → List ℕ
+lineMessage w size hex room buffer count = pick (lineSends buffer count) (messageAfter w size hex room (take count buffer)) w
+
+abbrev pub lineHeld : List ℕ → ℕ → List ℕ → ℕ → List ℕ
+lineHeld held hex buffer count = pick (lineSends buffer count) (heldAfter held hex (take count buffer)) held

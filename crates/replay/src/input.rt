@@ -50,6 +50,8 @@ fn add_bytes(line: &mut [u8], count: usize, more: &[u8]) -> usize
 fn take_chunk(
     start: Reached,
     device: &mut [u64; 933],
+    message: &mut [u64; 9],
+    held: &mut [u8],
     chunk: &[u8],
     line: &mut [u8],
     bytes: &mut [u8],
@@ -71,7 +73,19 @@ fn take_chunk(
             break;
         }
         i = end + 1;
-        run = run_line(run, device, line, count, bytes, frame, store, text, out);
+        run = run_line(
+            run,
+            device,
+            message,
+            held,
+            line,
+            count,
+            bytes,
+            frame,
+            store,
+            text,
+            out,
+        );
         count = 0;
     }
     flush(out, run.gathered);
@@ -97,6 +111,8 @@ fn read_chunk(chunk: &mut [u8]) -> Chunk
 // counts its turns down, from a number that no run uses up.
 pub fn run_script(
     device: &mut [u64; 933],
+    message: &mut [u64; 9],
+    held: &mut [u8],
     chunk: &mut [u8],
     line: &mut [u8],
     bytes: &mut [u8],
@@ -118,12 +134,25 @@ pub fn run_script(
         }
         let n = got.count;
         if n == 0 {
-            run_rest(reached, device, line, bytes, frame, store, text, out);
+            run_rest(
+                reached,
+                device,
+                message,
+                held,
+                line,
+                bytes,
+                frame,
+                store,
+                text,
+                out,
+            );
             return;
         }
         reached = take_chunk(
             reached,
             device,
+            message,
+            held,
             &chunk[..n],
             line,
             bytes,
@@ -140,6 +169,8 @@ pub fn run_script(
 fn run_rest(
     reached: Reached,
     device: &mut [u64; 933],
+    message: &mut [u64; 9],
+    held: &mut [u8],
     line: &[u8],
     bytes: &mut [u8],
     frame: &mut [u8],
@@ -153,7 +184,19 @@ fn run_rest(
             kept: reached.kept,
             gathered: 0,
         };
-        let last = run_line(run, device, line, count, bytes, frame, store, text, out);
+        let last = run_line(
+            run,
+            device,
+            message,
+            held,
+            line,
+            count,
+            bytes,
+            frame,
+            store,
+            text,
+            out,
+        );
         flush(out, last.gathered);
     }
 }

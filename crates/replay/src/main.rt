@@ -1,7 +1,8 @@
 // Runs a script of commands from standard input, and writes one line for each to standard output.
 //
 // `input` reads the script and parts it into lines, `run` runs one of them, `output` writes the answers.
-// What a line asks is in the crate `request`, and what a call is answered in `report`. Nothing grows
+// What a line asks is in the crate `request`, what a call is answered in `report`, and the commands on
+// messages in `sending`. Nothing grows
 // with the script: the device, the store and every buffer stand in `main` and are lent from there.
 ghost use mathlib.Core.Path.{_≡_};
 ghost use lib.ListN.{length};
@@ -25,10 +26,13 @@ fn new_text() -> [u8; 2097184]
     [0; 2097184]
 }
 
-// Lends the device's words, the store and the buffers. `bytes` holds what the hex of a line stands for,
-// less than half of the line; `out` gathers answers.
+// Lends the device's words, the message begun last, the store and the buffers. `bytes` holds what the hex
+// of a line stands for, less than half of the line, `held` what that of the message did; `out` gathers
+// answers.
 fn main() {
     let mut device = [0u64; 933];
+    let mut message = sending::no_message();
+    let mut held = [0u8; 32768];
     let mut chunk = io::large_buffer();
     let mut line = io::large_buffer();
     let mut bytes = [0u8; 32768];
@@ -38,6 +42,8 @@ fn main() {
     let mut out = io::large_buffer();
     input::run_script(
         &mut device,
+        &mut message,
+        &mut held,
         &mut chunk,
         &mut line,
         &mut bytes,

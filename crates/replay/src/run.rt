@@ -8,13 +8,22 @@ use report::tell;
 use request::Asked;
 use request::ask;
 use rnic_c::rnic_c_call;
+use sending::is_sending;
 ghost use mathlib.Core.Path.{_≡_};
 ghost use Prim.Native.Nat.{min, _≤_};
 ghost use mathlib.Core.List.{_++_};
 ghost use lib.ListN.{length, take, drop};
 ghost use Rattle.calls.specs.Call.{called, calledStore};
 ghost use Rattle.block.specs.Device.{rnicAt};
-ghost use Rattle.replay.specs.Run.{firstState, lineRequest, stateAt, stateAfter, storeThen};
+ghost use Rattle.replay.specs.Run.{
+  firstState,
+  lineRequest,
+  stateAt,
+  stateAfter,
+  storeThen,
+  lineMessage,
+  lineHeld,
+};
 
 // What a line hands on besides the device and the store: the LENGTH of the last `open`, which is how
 // many of the store's bytes a line lends that does not say, and how many bytes of answers are gathered.
@@ -65,8 +74,9 @@ fn make_call(
     print(text, n, out, gathered)
 }
 
-// Runs a line of `count` bytes, which the buffer `line` starts with unless the line is too long.
-pub fn run_line(
+// Runs a line of `count` bytes that is no command on messages, which the buffer `line` starts with unless
+// the line is too long.
+fn run_asked(
     run: Run,
     device: &mut [u64; 933],
     line: &[u8],
@@ -103,4 +113,41 @@ pub fn run_line(
         kept: run.kept,
         gathered,
     }
+}
+
+// Runs a line of `count` bytes, which the buffer `line` starts with unless the line is too long. A command
+// on messages is run on the message begun last, its words and its bytes in front of `held`, and on
+// nothing else.
+pub fn run_line(
+    run: Run,
+    device: &mut [u64; 933],
+    message: &mut [u64; 9],
+    held: &mut [u8],
+    line: &[u8],
+    count: usize,
+    bytes: &mut [u8],
+    frame: &mut [u8],
+    store: &mut [u8],
+    text: &mut [u8],
+    out: &mut [u8],
+) -> Run
+    requires { ⌜ run .gathered ≤ length (now out) ⌝ }
+    ensures within { λ r. ⌜ r .gathered ≤ length (now (out .entry)) ⌝ }
+    ensures state { λ r. ⌜ stateAt (r .kept) (now (device .exit)) ≡ stateAfter (stateAt (run .kept) (now (device .entry))) (lineRequest (run .kept) (length (now (bytes .entry))) (length (now (store .entry))) (now (line .entry)) count) (now (store .entry)) ⌝ }
+    ensures rest { λ r. ⌜ now (store .exit) ≡ storeThen (stateAt (run .kept) (now (device .entry))) (lineRequest (run .kept) (length (now (bytes .entry))) (length (now (store .entry))) (now (line .entry)) count) (now (store .entry)) ⌝ }
+    ensures message { λ r. ⌜ now (message .exit) ≡ lineMessage (now (message .entry)) (length (now (held .entry))) (length (now (bytes .entry))) (length (now (frame .entry))) (now (line .entry)) count ⌝ }
+    ensures held { λ r. ⌜ now (held .exit) ≡ lineHeld (now (held .entry)) (length (now (bytes .entry))) (now (line .entry)) count ⌝ }
+{
+    if line.len() < count {
+        return run_asked(run, device, line, count, bytes, frame, store, text, out);
+    }
+    if is_sending(&line[..count]) {
+        let n = sending::run(&line[..count], message, held, bytes, frame, text);
+        let gathered = print_answer(text, n, out, run.gathered);
+        return Run {
+            kept: run.kept,
+            gathered,
+        };
+    }
+    run_asked(run, device, line, count, bytes, frame, store, text, out)
 }

@@ -3,7 +3,7 @@
 // receive by itself. A call reads what it needs of the block and writes back what changed (`device`).
 //
 // Read `rnic_c_call` first. The crate `calls` has the numbers of the calls and the words of the answers;
-// include/rnic.h has both for C.
+// include/rnic.h has both for C. `message` has the writer for messages.
 ghost use mathlib.Core.Path.{_≡_};
 ghost use lib.ListN.{length};
 ghost use Rattle.calls.specs.Call.{called, calledStore, calledReceive};
@@ -27,6 +27,8 @@ use device::window::drop_window;
 use device::window::live_count;
 use device::window::lowest_free;
 use device::window::register;
+
+pub mod message;
 
 // A call by its number on a device that the caller holds, with the call's nine numbers, its bytes and the
 // store; the answer's words.

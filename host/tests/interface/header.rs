@@ -3,7 +3,7 @@
 use std::fs;
 use std::path::Path;
 
-use host::raw::{call, kind, Arguments, Rnic, Words, DEVICE_WORDS};
+use host::raw::{call, kind, written, Arguments, Rnic, RnicMessage, Words, Written, DEVICE_WORDS};
 
 /// Reads the header.
 pub fn header() -> String {
@@ -33,6 +33,8 @@ fn header_and_crate_agree() {
         ("RNIC_C_DEVICE_WORDS", size_of::<Rnic>()),
         ("RNIC_C_ARGUMENTS", size_of::<Arguments>()),
         ("RNIC_C_WORDS", size_of::<Words>()),
+        ("RNIC_C_MESSAGE_WORDS", size_of::<RnicMessage>()),
+        ("RNIC_C_WRITTEN_WORDS", size_of::<Written>()),
     ] {
         let words = size / size_of::<u64>();
         assert_eq!(defined(&header, name), Some(words as u64), "{name}");
@@ -61,6 +63,9 @@ fn header_and_crate_agree() {
         ("SENT_INVALIDATING", kind::SENT_INVALIDATING),
         ("TERMINATED", kind::TERMINATED),
         ("ENDED", kind::ENDED),
+        ("NOT_WRITTEN", written::NOT_WRITTEN),
+        ("WROTE", written::WROTE),
+        ("NO_MORE", written::NO_MORE),
     ] {
         let found = number_after(&header, &format!(" RNIC_{name} = "));
         assert_eq!(found, Some(number), "{name}");

@@ -1,4 +1,4 @@
-//! The C interface as a Rust program sees it: its layout, its calls, its CRC, the stored scripts, and random
+//! The C interface as a Rust program sees it: its layout, its calls, its CRC, its messages, the stored scripts, and random
 //! nights beside the second program.
 
 mod calls;
@@ -6,6 +6,7 @@ mod crc;
 mod header;
 mod inputs;
 mod layout;
+mod messages;
 mod nights;
 mod stack;
 mod stored;

@@ -6,6 +6,8 @@ use std::collections::BTreeMap;
 
 use host::raw::{call, kind, rnic_c_call, rnic_c_receive, Rnic, Words};
 use host::raw::{rnic_c_crc32c, rnic_c_crc32c_join, rnic_c_crc32c_update};
+use host::raw::{rnic_c_fpdu_write, rnic_c_message_next, rnic_c_message_send};
+use host::raw::{rnic_c_message_write, RnicMessage, Written};
 use oracle::command::Command;
 
 use crate::header::{defined, header};
@@ -152,6 +154,61 @@ fn join_depth() -> usize {
     lengths.map(depth).into_iter().fold(0, usize::max)
 }
 
+/// Gives the most bytes of stack that beginning a message takes, refused and not.
+fn begin_depth() -> usize {
+    let mut message = RnicMessage { words: [0; 9] };
+    let mut stack = Painted::new();
+    let state = &raw mut message as usize;
+    let writes = [19, 18, 2049].map(|limit| [state, limit, 7, 8, 9, 0, 0, 0]);
+    let sends = [3, 4, 7].map(|opcode| [state, 40, opcode, 1, 9, 5, 0, 0]);
+    let entries = [
+        (rnic_c_message_write as *const (), writes),
+        (rnic_c_message_send as *const (), sends),
+    ];
+    let mut most = 0;
+    for (entry, calls) in entries {
+        for words in calls {
+            // SAFETY: the arguments are a pointer to a message that is held, and numbers.
+            most = most.max(unsafe { stack.call(entry, words) });
+        }
+    }
+    most
+}
+
+/// Gives the most bytes of stack that writing the segments of a message takes, and framing one.
+fn next_depths() -> [usize; 2] {
+    let bytes = [7u8; 5000];
+    let (mut out, mut frame) = ([0u8; 2048], [0u8; 2056]);
+    let mut answer: Written = [0; 2];
+    let mut stack = Painted::new();
+    let mut most = [0; 2];
+    for (limit, opcode) in [(19, 0), (2048, 0), (33, 3), (2048, 6)] {
+        let mut message = RnicMessage { words: [0; 9] };
+        let state = &raw mut message as usize;
+        // SAFETY: the pointers are those of values that are held for the calls, with their lengths.
+        unsafe {
+            match opcode {
+                0 => rnic_c_message_write(&mut message, limit, 7, 8, 5000),
+                _ => rnic_c_message_send(&mut message, limit, opcode, 1, 9, 5000),
+            };
+            let (given, written) = (bytes.as_ptr() as usize, &raw mut answer as usize);
+            for room in [0, 2048, 2048, 2048, 2048] {
+                let to = out.as_mut_ptr() as usize;
+                let words = [state, given, 5000, to, room, written, 0, 0];
+                most[0] = stack
+                    .call(rnic_c_message_next as *const (), words)
+                    .max(most[0]);
+                let (length, end) = (out.len().min(limit as usize), frame.as_mut_ptr() as usize);
+                let words = [to, length, end, 2056 - 2048 + room, written, 0, 0, 0];
+                most[1] = stack
+                    .call(rnic_c_fpdu_write as *const (), words)
+                    .max(most[1]);
+            }
+        }
+    }
+    most
+}
+
 #[test]
 fn stack_of_the_entries() {
     let columns = [false, true].map(depths);
@@ -169,6 +226,12 @@ fn stack_of_the_entries() {
     println!("\nrnic_c_crc32c: {}", crc_depth());
     println!("rnic_c_crc32c_update: {}", update_depth());
     println!("rnic_c_crc32c_join: {}", join_depth());
+    println!(
+        "rnic_c_message_write, rnic_c_message_send: {}",
+        begin_depth()
+    );
+    let [next, fpdu] = next_depths();
+    println!("rnic_c_message_next: {next}\nrnic_c_fpdu_write: {fpdu}");
     assert_eq!(columns[0].len(), 27, "every call and answer is met");
     let receives = columns[1]
         .iter()
@@ -182,6 +245,9 @@ fn stack_of_the_entries() {
         ("RNIC_C_CRC32C_STACK", Some(crc_depth())),
         ("RNIC_C_CRC32C_UPDATE_STACK", Some(update_depth())),
         ("RNIC_C_CRC32C_JOIN_STACK", Some(join_depth())),
+        ("RNIC_C_MESSAGE_STACK", Some(begin_depth())),
+        ("RNIC_C_MESSAGE_NEXT_STACK", Some(next)),
+        ("RNIC_C_FPDU_WRITE_STACK", Some(fpdu)),
     ];
     for (name, depth) in most {
         let stated = defined(&header(), name);

@@ -9,7 +9,8 @@ use oracle::script::STORE;
 
 use crate::support::Program;
 
-/// Says whether a line is of a kind that needs no device: on frames, which the C interface does not have, or on CRCs.
+/// Says whether a line is of a kind that needs no device: on frames, which the C interface does not have, on CRCs,
+/// or on messages.
 fn needs_no_device(line: &[u8]) -> bool {
     matches!(
         parse(line),
@@ -20,6 +21,9 @@ fn needs_no_device(line: &[u8]) -> bool {
                 | Command::Unstartup { .. }
                 | Command::Crc { .. }
                 | Command::Join { .. }
+                | Command::MessageWrite { .. }
+                | Command::MessageSend { .. }
+                | Command::Segment { .. }
         )
     )
 }

@@ -1,21 +1,22 @@
-//! The program that writes random scripts: `generate frames|nights SEED COUNT`.
+//! The program that writes random scripts: `generate frames|nights|messages SEED COUNT`.
 
 use std::env;
 use std::io::{self, BufWriter};
 use std::process::ExitCode;
 
-use oracle::generate::{frames, nights};
+use oracle::generate::{frames, messages, nights};
 
 /// Writes the script that the arguments ask for to standard output.
 fn main() -> ExitCode {
     let words: Vec<String> = env::args().skip(1).collect();
     let Some((mode, seed, count)) = arguments(&words) else {
-        eprintln!("usage: generate frames|nights SEED COUNT");
+        eprintln!("usage: generate frames|nights|messages SEED COUNT");
         return ExitCode::FAILURE;
     };
     let out = BufWriter::new(io::stdout().lock());
     let result = match mode {
         "frames" => frames::write_script(seed, count, out),
+        "messages" => messages::write_script(seed, count, out),
         _ => nights::write_script(seed, count, out),
     };
     match result {
@@ -32,8 +33,7 @@ fn arguments(words: &[String]) -> Option<(&str, u64, u64)> {
     let [mode, seed, count] = words else {
         return None;
     };
-    if mode != "frames" && mode != "nights" {
-        return None;
-    }
+    let known = ["frames", "nights", "messages"].contains(&mode.as_str());
+    known.then_some(())?;
     Some((mode, seed.parse().ok()?, count.parse().ok()?))
 }

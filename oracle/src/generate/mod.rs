@@ -6,6 +6,7 @@ mod faults;
 pub mod frames;
 pub mod interleave;
 pub mod malformed;
+pub mod messages;
 pub mod nights;
 mod openings;
 mod pieces;

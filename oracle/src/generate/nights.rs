@@ -13,7 +13,7 @@ use crate::state::{DOMAINS, STREAMS, STREAMS_PER_DOMAIN};
 pub const FAULTY: u64 = 16;
 
 /// Every domain.
-const EVERY: [usize; DOMAINS] = [0, 1, 2, 3];
+pub(super) const EVERY: [usize; DOMAINS] = [0, 1, 2, 3];
 
 /// Writes a script of `count` lines, the last of which shows the whole store.
 pub fn write_script(seed: u64, count: u64, out: impl Write) -> io::Result<()> {
@@ -41,11 +41,20 @@ pub fn write_spoilt_script(
 }
 
 /// Writes the lines of a night, the last of which shows the whole store.
-fn write_night(mut night: Night, mut out: impl Write) -> io::Result<()> {
+fn write_night(night: Night, out: impl Write) -> io::Result<()> {
+    write_steps(night, Night::step, out)
+}
+
+/// Writes the lines of a night that goes on by such steps, the last of which shows the whole store.
+pub(super) fn write_steps(
+    mut night: Night,
+    step: fn(&mut Night),
+    mut out: impl Write,
+) -> io::Result<()> {
     let shown = night.left > 0;
     night.left -= u64::from(shown);
     while night.left > 0 {
-        night.step();
+        step(&mut night);
         for line in night.lines.drain(..) {
             out.write_all(&line)?;
             out.write_all(b"\n")?;

@@ -82,7 +82,7 @@ pub(super) fn stag(number: u64, key: u8) -> u32 {
 }
 
 /// Gives a length up to `most`: mostly short, at times all of it.
-fn length_up_to(prng: &mut Prng, most: u64) -> u64 {
+pub(super) fn length_up_to(prng: &mut Prng, most: u64) -> u64 {
     match prng.below(10) {
         0 => most,
         1 => prng.below(most + 1),

@@ -6,8 +6,9 @@ use Rattle.replay.proofs.input.run_script.Statement.{statement}
 use Rattle.replay.proofs.input.run_script.Tie as tie
 
 abbrev Inv-loop : tie.InvT-loop
-Inv-loop device₀ chunk₀ line₀ bytes₀ frame₀ store₀ text₀ out₀ turns₀ reached₀ device chunk line bytes frame store text out turns reached =
+Inv-loop device₀ message₀ held₀ chunk₀ line₀ bytes₀ frame₀ store₀ text₀ out₀ turns₀ reached₀ device message held chunk line bytes frame store text out turns reached =
     (length chunk ≡ length chunk₀)
+    × (length held ≡ length held₀)
     × (length line ≡ length line₀)
     × (length bytes ≡ length bytes₀)
     × (length frame ≡ length frame₀)
@@ -16,7 +17,7 @@ Inv-loop device₀ chunk₀ line₀ bytes₀ frame₀ store₀ text₀ out₀ tu
     × (length out ≡ length out₀)
 
 abbrev μ-loop : tie.MeasureT-loop
-μ-loop device₀ chunk₀ line₀ bytes₀ frame₀ store₀ text₀ out₀ turns₀ reached₀ device chunk line bytes frame store text out turns reached =
+μ-loop device₀ message₀ held₀ chunk₀ line₀ bytes₀ frame₀ store₀ text₀ out₀ turns₀ reached₀ device message held chunk line bytes frame store text out turns reached =
     turns
 
 first-state-requires : tie.Need-first-state-requires Inv-loop μ-loop
@@ -52,14 +53,14 @@ same-length-6 c = search needs
 same-length-7 : tie.Need-same-length-7 Inv-loop μ-loop
 same-length-7 c = search needs
 
+same-length-8 : tie.Need-same-length-8 Inv-loop μ-loop
+same-length-8 c = search needs
+
 returns : tie.Need-returns Inv-loop μ-loop
 returns c = search needs
 
 run-rest-requires : tie.Need-run-rest-requires Inv-loop μ-loop
 run-rest-requires c κs = search needs
-
-same-length-8 : tie.Need-same-length-8 Inv-loop μ-loop
-same-length-8 c = search needs
 
 same-length-9 : tie.Need-same-length-9 Inv-loop μ-loop
 same-length-9 c = search needs
@@ -78,6 +79,12 @@ same-length-13 c = search needs
 
 same-length-14 : tie.Need-same-length-14 Inv-loop μ-loop
 same-length-14 c = search needs
+
+same-length-15 : tie.Need-same-length-15 Inv-loop μ-loop
+same-length-15 c = search needs
+
+same-length-16 : tie.Need-same-length-16 Inv-loop μ-loop
+same-length-16 c = search needs
 
 returns-2 : tie.Need-returns-2 Inv-loop μ-loop
 returns-2 c = search needs
@@ -100,12 +107,6 @@ loop-less c = search needs
 loop-again : tie.Need-loop-again Inv-loop μ-loop
 loop-again c = search needs
 
-same-length-15 : tie.Need-same-length-15 Inv-loop μ-loop
-same-length-15 c = search needs
-
-same-length-16 : tie.Need-same-length-16 Inv-loop μ-loop
-same-length-16 c = search needs
-
 same-length-17 : tie.Need-same-length-17 Inv-loop μ-loop
 same-length-17 c = search needs
 
@@ -120,6 +121,15 @@ same-length-20 c = search needs
 
 same-length-21 : tie.Need-same-length-21 Inv-loop μ-loop
 same-length-21 c = search needs
+
+same-length-22 : tie.Need-same-length-22 Inv-loop μ-loop
+same-length-22 c = search needs
+
+same-length-23 : tie.Need-same-length-23 Inv-loop μ-loop
+same-length-23 c = search needs
+
+same-length-24 : tie.Need-same-length-24 Inv-loop μ-loop
+same-length-24 c = search needs
 
 returns-3 : tie.Need-returns-3 Inv-loop μ-loop
 returns-3 c = search needs
@@ -141,15 +151,17 @@ run-script-spec =
     same-length-5
     same-length-6
     same-length-7
+    same-length-8
     returns
     run-rest-requires
-    same-length-8
     same-length-9
     same-length-10
     same-length-11
     same-length-12
     same-length-13
     same-length-14
+    same-length-15
+    same-length-16
     returns-2
     slice-reshare-prefix-take-chunk
     slice-aggregate-take-chunk
@@ -157,11 +169,12 @@ run-script-spec =
     sub-turns
     loop-less
     loop-again
-    same-length-15
-    same-length-16
     same-length-17
     same-length-18
     same-length-19
     same-length-20
     same-length-21
+    same-length-22
+    same-length-23
+    same-length-24
     returns-3)

@@ -11,9 +11,10 @@ use Rattle.replay.proofs.input.take_chunk.Statement.{statement}
 use Rattle.replay.proofs.input.take_chunk.Tie as tie
 
 abbrev Inv-loop : tie.InvT-loop
-Inv-loop device₀ chunk line₀ bytes₀ frame₀ store₀ text₀ out₀ run₀ count₀ i₀ device line bytes frame store text out run count i =
+Inv-loop device₀ message₀ held₀ chunk line₀ bytes₀ frame₀ store₀ text₀ out₀ run₀ count₀ i₀ device message held line bytes frame store text out run count i =
     (i ≤ length chunk)
     × (run .gathered ≤ length out)
+    × (length held ≡ length held₀)
     × (length line ≡ length line₀)
     × (length bytes ≡ length bytes₀)
     × (length frame ≡ length frame₀)
@@ -22,7 +23,7 @@ Inv-loop device₀ chunk line₀ bytes₀ frame₀ store₀ text₀ out₀ run�
     × (length out ≡ length out₀)
 
 abbrev μ-loop : tie.MeasureT-loop
-μ-loop device₀ chunk line₀ bytes₀ frame₀ store₀ text₀ out₀ run₀ count₀ i₀ device line bytes frame store text out run count i =
+μ-loop device₀ message₀ held₀ chunk line₀ bytes₀ frame₀ store₀ text₀ out₀ run₀ count₀ i₀ device message held line bytes frame store text out run count i =
     length chunk - i
 
 loop-holds : tie.Need-loop-holds Inv-loop μ-loop
@@ -57,19 +58,22 @@ run-line-requires c κs = search needs
 
 loop-less : tie.Need-loop-less Inv-loop μ-loop
 loop-less c =
-    let w = end-within _ _ _ (c .before .before .before .before .before .before .before .before .before .before .before .before .before .before .before .before .before .before .before .before .before .before .before .before .before .loop-test .taken) (c .before .before .before .before .before .before .before .before .before .before .before .before .before .before .before .before .before .before .before .before .before .before .before .before .line-end .ensures) in
+    let w = end-within _ _ _ (c .before .before .before .before .before .before .before .before .before .before .before .before .before .before .before .before .before .before .before .before .before .before .before .before .before .before .before .before .before .loop-test .taken) (c .before .before .before .before .before .before .before .before .before .before .before .before .before .before .before .before .before .before .before .before .before .before .before .before .before .before .before .before .line-end .ensures) in
     search needs
 
 loop-again : tie.Need-loop-again Inv-loop μ-loop
 loop-again c =
-    let w = end-within _ _ _ (c .before .before .before .before .before .before .before .before .before .before .before .before .before .before .before .before .before .before .before .before .before .before .before .before .before .loop-test .taken) (c .before .before .before .before .before .before .before .before .before .before .before .before .before .before .before .before .before .before .before .before .before .before .before .before .line-end .ensures) in
+    let w = end-within _ _ _ (c .before .before .before .before .before .before .before .before .before .before .before .before .before .before .before .before .before .before .before .before .before .before .before .before .before .before .before .before .before .loop-test .taken) (c .before .before .before .before .before .before .before .before .before .before .before .before .before .before .before .before .before .before .before .before .before .before .before .before .before .before .before .before .line-end .ensures) in
     search needs
 
 flush-requires : tie.Need-flush-requires Inv-loop μ-loop
 flush-requires c κs = search needs
 
 same-length : tie.Need-same-length Inv-loop μ-loop
-same-length c =
+same-length c = search needs
+
+same-length-2 : tie.Need-same-length-2 Inv-loop μ-loop
+same-length-2 c =
     ⊎-elim
     (λ w. search needs)
     (λ w.
@@ -77,9 +81,6 @@ same-length c =
     let k = w .4 .kept .0 in
     search needs)
     (c .before .before .loop-test .came)
-
-same-length-2 : tie.Need-same-length-2 Inv-loop μ-loop
-same-length-2 c = search needs
 
 same-length-3 : tie.Need-same-length-3 Inv-loop μ-loop
 same-length-3 c = search needs
@@ -92,6 +93,9 @@ same-length-5 c = search needs
 
 same-length-6 : tie.Need-same-length-6 Inv-loop μ-loop
 same-length-6 c = search needs
+
+same-length-7 : tie.Need-same-length-7 Inv-loop μ-loop
+same-length-7 c = search needs
 
 returns : tie.Need-returns Inv-loop μ-loop
 returns c = search needs
@@ -119,4 +123,5 @@ take-chunk-spec =
     same-length-4
     same-length-5
     same-length-6
+    same-length-7
     returns)

@@ -1,0 +1,77 @@
+-- What a domain's receive keeps: where its part lies, and how many bytes it has. By cases on the tests of each definition.
+use Prim.Native.Nat.{ℕ, _-_, _+_}
+use mathlib.Core.Path.{_≡_, refl}
+use mathlib.Core.Bool.{Bool, true, false}
+use mathlib.Core.List.{List}
+use lib.ListN.{length}
+use lib.Dec.{leb}
+use borrow.Author.Tests.{leb-true}
+use Rattle.wire.specs.Wire.{pick, part}
+use Rattle.wire.proofs.Laws.{length-put}
+use Rattle.ddp.specs.Place.{fits, placed}
+use Rattle.ddp.specs.Segment.{segmentRead}
+use Rattle.memory.specs.declared.part.Part.{Part}
+use Rattle.ddp.specs.declared.segment.SegmentRead.{SegmentRead}
+use Rattle.ddp.specs.declared.segment.SegmentRead.the-variants.{Wait, Refused as SegmentRefused, Tagged, Untagged}
+use Rattle.memory.specs.declared.window.Window.{Window}
+use Rattle.rdmap.specs.Phase.{readiness}
+use Rattle.rdmap.specs.declared.message.Verdict.{Verdict}
+use Rattle.rdmap.specs.declared.message.Verdict.the-variants.{Refused as VerdictRefused, Nothing, Write, SendMore, SendLast, Read, Terminate}
+use Rattle.rdmap.specs.declared.phase.Readiness.{Readiness}
+use Rattle.rdmap.specs.declared.phase.Readiness.the-variants.{Ready, NotReady}
+use Rattle.rdmap.specs.declared.stream.Stream.{Stream}
+use Rattle.domain.specs.Domain.{streamAt, domainReceived, domainReceivedBytes}
+use Rattle.domain.specs.Parts.{appliedBytes, placedFrom, partsVerdict, partsPlaced, partsBytesWhen, partsReceived, partsReceivedBytes, lifted}
+use Rattle.domain.specs.declared.Domain.{Domain}
+use Rattle.domain.specs.declared.Received.{Received}
+
+pub received-keeps : (d : Domain) (number slot : ℕ) (input : List ℕ) → domainReceived d number slot input .domain .part ≡ d .part
+unfolding domainReceived
+received-keeps d number slot input = go (leb slot 3) (lifted d slot (partsReceived (d .windows) number (streamAt d slot) input)) _ refl refl
+  where
+    go : (t : Bool) (x y : Received) → x .domain .part ≡ d .part → y .domain .part ≡ d .part → pick t x y .domain .part ≡ d .part
+    go true x y p q = p
+    go false x y p q = q
+
+-- ---- as many bytes
+length-pick : (t : Bool) (x y l : List ℕ) → (t ≡ true → length x ≡ length l) → length y ≡ length l → length (pick t x y) ≡ length l
+length-pick true x y l p q = p refl
+length-pick false x y l p q = q
+
+placed-many : (l : List ℕ) (at : ℕ) (xs : List ℕ) → length (placed l at xs) ≡ length l
+unfolding placed fits
+placed-many l at xs = length-pick (leb (at + length xs) (length l)) _ l l (λ e. length-put l at xs (leb-true (at + length xs) (length l) e)) refl
+
+from-many : (start at : ℕ) (xs l : List ℕ) → length (placedFrom start at xs l) ≡ length l
+unfolding placedFrom
+from-many start at xs l = length-pick (leb start at) (placed l (at - start) xs) l l (λ e. placed-many l (at - start) xs) refl
+
+applied-many : (start : ℕ) (v : Verdict) (xs l : List ℕ) → length (appliedBytes start v xs l) ≡ length l
+unfolding appliedBytes
+applied-many start (VerdictRefused r) xs l = refl
+applied-many start Nothing xs l = refl
+applied-many start (Write at) xs l = from-many start at xs l
+applied-many start (SendMore at opcode taken) xs l = from-many start at xs l
+applied-many start (SendLast at opcode from len inv) xs l = from-many start at xs l
+applied-many start (Read r) xs l = refl
+applied-many start (Terminate layer etype code) xs l = refl
+
+module _ (p : Part) (ws : List Window) (number : ℕ) (s : Stream) (input l : List ℕ) where
+  segment-many : (x : SegmentRead) → length (partsPlaced p ws number s input l x) ≡ length l
+  segment-many (Wait n) = refl
+  segment-many (SegmentRefused r) = refl
+  segment-many (Tagged total h start len) = applied-many (p .start) (partsVerdict ws number s input (Tagged total h start len)) (part input start len) l
+  segment-many (Untagged total h start len) = applied-many (p .start) (partsVerdict ws number s input (Untagged total h start len)) (part input start len) l
+
+  when-many : (r : Readiness) → length (partsBytesWhen p ws number s input l r) ≡ length l
+  when-many Ready = segment-many (segmentRead (s .framing .crc) input)
+  when-many (NotReady k) = refl
+
+  parts-many : length (partsReceivedBytes p ws number s input l) ≡ length l
+  unfolding partsReceivedBytes
+  parts-many = when-many (readiness (s .phase))
+
+pub received-many : (d : Domain) (number slot : ℕ) (input l : List ℕ) → length (domainReceivedBytes d number slot input l) ≡ length l
+unfolding domainReceivedBytes
+received-many d number slot input l =
+    length-pick (leb slot 3) (partsReceivedBytes (d .part) (d .windows) number (streamAt d slot) input l) l l (λ e. parts-many (d .part) (d .windows) number (streamAt d slot) input l) refl

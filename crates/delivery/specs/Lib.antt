@@ -1,0 +1,4 @@
+pub mod Delivery
+pub mod Promise
+pub mod Streamed
+pub mod Device

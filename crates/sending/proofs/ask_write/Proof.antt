@@ -1,0 +1,34 @@
+-- `ask_write` meets its contract: the words are counted, and each is read, as the definition has it.
+use mathlib.Core.Path.{refl, sym, ap, _∙_}
+use Rattle.command.proofs.Read.{counted, other-count, read-as, is-hex, no-hex, front-decoded}
+use Rattle.sending.specs.Sending.{askWrite, writeOf}
+use borrow.Author.Needs.{needs}
+use Rattle.sending.proofs.ask_write.Statement.{statement}
+use Rattle.sending.proofs.ask_write.Tie as tie
+
+returns : tie.Need-returns
+unfolding askWrite
+returns c =
+    let a = c .before .before .before .args in rw (other-count (a .line .now) (a .words) 6 (c .if1 .taken))
+
+word-requires : tie.Need-word-requires
+word-requires c κs = search needs
+
+word-requires-2 : tie.Need-word-requires-2
+word-requires-2 c κs = search needs
+
+word-requires-3 : tie.Need-word-requires-3
+word-requires-3 c κs = search needs
+
+write-of-requires : tie.Need-write-of-requires
+write-of-requires c κs = search needs
+
+returns-2 : tie.Need-returns-2
+unfolding askWrite
+returns-2 c =
+    let a = c .before .before .before .before .before .before .before .args in rw (counted (a .line .now) (a .words) 6 (c .before .before .before .before .if1 .left)) (c .write-of .ensures ∙ (λ z. writeOf (c .before .before .before .word .ensures z) (c .before .before .word2 .ensures z) (c .before .word3 .ensures z) (a .size)))
+
+pub ask-write-spec : {M : Type 1} → statement M
+ask-write-spec =
+    tie.close
+    (tie.spec returns word-requires word-requires-2 word-requires-3 write-of-requires returns-2)
