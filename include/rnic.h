@@ -1,18 +1,19 @@
 /* The receiver for a C program: a device that the caller holds, over a store that the caller lends at each call.
  *
  * Link with librnic_c.a, which `rt staticlib rnic_c` writes. Each function is proved to do what the device's call does by
- * value (crates/rnic_c): the device, the answer's eight words and the whole store after it. There is no state besides
- * `struct rnic`, no allocation and no I/O.
+ * value (crates/rnic_c): the device, the answer's eight words, the whole store and all of the rooms after it. There is no
+ * state besides `struct rnic` and the bytes that streams hold in the rooms (below), no allocation and no I/O.
  *
  * A device is a block of words. Any words are a device, so that no call can be made on a wrong one: every call answers
  * whatever the block holds. All zeros is the device that a refused opening leaves: for a store of no bytes, with no window
  * live and no stream open. A call reads what it needs of the block and writes back what it changed, and no word beside it.
  *
- * A device can be copied, moved, saved and read back as its words, and goes on as it was. From zeros, or from an opening on,
- * its words turn on the calls alone: two such devices are the same where their words are the same, so that memcmp compares
- * them. Words that no call made may be other words of the same device.
+ * A device can be copied, moved, saved and read back as its words, with its rooms where a stream holds bytes, and goes on as
+ * it was. From zeros, or from an opening on, its words turn on the calls alone: two such devices are the same where their words
+ * are the same, so that memcmp compares them, and the bytes that their streams hold. Words that no call made may be other words
+ * of the same device.
  *
- * The caller owes what a Rust reference means: the device, the store, the bytes and the answer do not overlap (the
+ * The caller owes what a Rust reference means: the device, the store, the rooms, the bytes and the answer do not overlap (the
  * arguments and the bytes may), each pointer is good for its length, and none is null. A slice of no bytes takes any pointer
  * but null. */
 #ifndef RNIC_H
@@ -37,6 +38,8 @@ struct rnic {
  * over random calls of every kind, of the library as the kit compiles it for x86-64. */
 #define RNIC_C_CALL_STACK 12288
 #define RNIC_C_RECEIVE_STACK 12288
+#define RNIC_C_OFFER_STACK 12288
+#define RNIC_C_HELD_STACK 1024
 #define RNIC_C_CRC32C_STACK 12288
 #define RNIC_C_CRC32C_UPDATE_STACK 12288
 #define RNIC_C_CRC32C_JOIN_STACK 4096
@@ -47,6 +50,10 @@ struct rnic {
 /* How many numbers a call takes, and how many words its answer has. */
 #define RNIC_C_ARGUMENTS 9
 #define RNIC_C_WORDS 8
+
+/* How many bytes a stream's room has, that of the longest FPDU, and the rooms of all sixteen streams, one after the other. */
+#define RNIC_C_ROOM 2056
+#define RNIC_C_ROOMS 32896
 
 /* The calls, with the numbers that each takes of a[0] to a[8]; it looks at no other. */
 enum rnic_call {
@@ -60,7 +67,7 @@ enum rnic_call {
     RNIC_TAKE = 6,         /* stream */
     RNIC_LIVE_COUNT = 7,   /* domain */
     RNIC_LOWEST_FREE = 8,  /* domain */
-    RNIC_RECEIVE = 9       /* stream; it alone looks at the bytes and the store */
+    RNIC_RECEIVE = 9       /* stream; it alone looks at the bytes and the store: 16 while the stream holds bytes of an offer */
     /* any other number answers RNIC_REFUSED 1 and changes nothing */
 };
 
@@ -76,17 +83,59 @@ enum rnic_answer {
     RNIC_SENT = 7,              /* the FPDU's total, the buffer's start, the message's length, the opcode */
     RNIC_SENT_INVALIDATING = 8, /* the same, and the STag that it invalidated */
     RNIC_TERMINATED = 9,        /* the FPDU's total, layer, error type, error code */
-    RNIC_ENDED = 10             /* a refusal of the peer's bytes, which ended the stream: number, layer, type, code */
+    RNIC_ENDED = 10,            /* a refusal of the peer's bytes, which ended the stream: number, layer, type, code */
+    RNIC_KEPT = 11              /* of an offer alone: no FPDU is whole, and the stream holds all of the bytes */
+    /* of an offer, word RNIC_C_OFFER_TAKEN of the kinds 6 to 9 and 11 says how many bytes of this call were taken */
 };
+
+/* The word of an offer's answer that says how many bytes of this call were taken: these need not be offered again. */
+#define RNIC_C_OFFER_TAKEN 6
 
 /* The call of a number. RNIC_OPEN makes *device anew, whatever words it held. */
 void rnic_c_call(struct rnic *device, uint8_t *store, size_t store_length, uint64_t number,
                  const uint64_t a[RNIC_C_ARGUMENTS], const uint8_t *bytes, size_t bytes_length,
                  uint64_t answer[RNIC_C_WORDS]);
 
-/* RNIC_RECEIVE by itself, for the path that has to be fast: the first FPDU of bytes for a stream. */
+/* RNIC_RECEIVE by itself, for the path that has to be fast: the first FPDU of bytes for a stream. For a caller that keeps what
+ * came of an FPDU itself: where not all of it is there the answer is RNIC_WAIT, nothing changes, and the caller gives the same
+ * bytes again with more behind them. */
 void rnic_c_receive(struct rnic *device, uint8_t *store, size_t store_length, uint64_t stream, const uint8_t *bytes,
                     size_t bytes_length, uint64_t answer[RNIC_C_WORDS]);
+
+/* The same for bytes that are cut anywhere, as TCP cuts them: the stream keeps what came of an FPDU. For a caller that gives
+ * each byte once, in the order in which they came, and keeps none:
+ *
+ *     while ((n = recv(socket, buffer, sizeof buffer, 0)) > 0) {
+ *         const uint8_t *rest = buffer;
+ *         while (n > 0) {
+ *             rnic_c_offer(&device, store, sizeof store, rooms, sizeof rooms, stream, rest, (size_t)n, answer);
+ *             if (answer[0] == RNIC_REFUSED || answer[0] == RNIC_ENDED) {
+ *                 goto close;
+ *             }
+ *             report(answer);
+ *             rest += answer[RNIC_C_OFFER_TAKEN];
+ *             n -= (ssize_t)answer[RNIC_C_OFFER_TAKEN];
+ *         }
+ *     }
+ *
+ * A call takes bytes up to the end of the first FPDU that they complete, and answers as receive does with that FPDU's total in
+ * word 1; or it takes all of them, which may be none, and answers RNIC_KEPT. However the bytes are cut, the events, the store
+ * and the device are the same. An FPDU that lies whole in the bytes, with nothing held before it, is received where it lies;
+ * any other is gathered in the stream's room first.
+ *
+ * The rooms are one block of RNIC_C_ROOMS bytes for a device, lent at each offer as the last one left them. Only the bytes that
+ * a stream holds count: at first the rooms may hold anything. An offer writes to its own stream's room alone, and no other call
+ * looks at them. A refusal of the peer's bytes, a Terminate, RNIC_CLOSE_STREAM and RNIC_OPEN empty what is held: then the
+ * bytes are gone. Offers that follow the first two are refused with 5 and keep nothing.
+ *
+ * RNIC_REFUSED: 1 for a stream over 15, 2 for a store of another length than the device was opened over or rooms of another
+ * length than RNIC_C_ROOMS, 3 for a stream that is not open, 5 for one that has ended. While a stream holds bytes, receive is
+ * refused with 16 on it: where nothing is held the two may be mixed. */
+void rnic_c_offer(struct rnic *device, uint8_t *store, size_t store_length, uint8_t *rooms, size_t rooms_length,
+                  uint64_t stream, const uint8_t *bytes, size_t bytes_length, uint64_t answer[RNIC_C_WORDS]);
+
+/* How many bytes a stream holds, from the start of its room; 0 where it is closed or has ended, and for a number over 15. */
+uint32_t rnic_c_held(const struct rnic *device, uint64_t stream);
 
 /* The CRC-32C of bytes. A frame has it after its pad, the least significant byte first. */
 uint32_t rnic_c_crc32c(const uint8_t *bytes, size_t bytes_length);

@@ -66,7 +66,83 @@ static void call(const char *what, uint64_t number, uint64_t a0, uint64_t a1, ui
     expect(what, answer, kind, first, second);
 }
 
-/* A Write of four bytes to TO 8 of the window with STag 7, the CRC off: to stream 0 by each of the two entries. */
+static uint8_t rooms[RNIC_C_ROOMS + 1];
+
+_Static_assert(RNIC_C_ROOMS == 16 * RNIC_C_ROOM, "a room for each stream");
+
+/* Offers bytes to stream 0 of the middle one of three devices: the others stay. */
+static void offer(const char *what, struct rnic three[3], const uint8_t *bytes, size_t length, uint64_t kind,
+                  uint64_t total, uint64_t taken) {
+    uint64_t answer[RNIC_C_WORDS];
+    memset(&three[0], 0xA5, sizeof three[0]);
+    memset(&three[2], 0xA5, sizeof three[2]);
+    rnic_c_offer(&three[1], store, STORE, rooms, RNIC_C_ROOMS, 0, bytes, length, answer);
+    expect(what, answer, kind, total, 0);
+    if (answer[RNIC_C_OFFER_TAKEN] != taken) {
+        printf("%s: %llu taken\n", what, (unsigned long long)answer[RNIC_C_OFFER_TAKEN]);
+        wrong = 1;
+    }
+    expect_words("before the device that was offered bytes", &three[0], 0xA5A5A5A5A5A5A5A5);
+    expect_words("behind the device that was offered bytes", &three[2], 0xA5A5A5A5A5A5A5A5);
+}
+
+/* Says what is wrong where stream 0 of a device does not hold so many bytes, or not these. */
+static void expect_held(const struct rnic *held, const uint8_t *bytes, uint32_t count) {
+    if (rnic_c_held(held, 0) != count || memcmp(rooms, bytes, count) != 0) {
+        printf("held: %u\n", (unsigned)rnic_c_held(held, 0));
+        wrong = 1;
+    }
+}
+
+/* Says what is wrong where a byte behind the first room is not as it was at first. */
+static void expect_rooms(void) {
+    for (size_t i = RNIC_C_ROOM; i < sizeof rooms; ++i) {
+        if (rooms[i] != 0x5A) {
+            printf("offer: byte %zu of the rooms\n", i);
+            wrong = 1;
+            return;
+        }
+    }
+}
+
+/* The same Write as below in three pieces, the last with the front of the next: on a copy of the device. */
+static void check_offer(void) {
+    static struct rnic three[3];
+    const uint8_t f[] = {0, 18, 0xC1, 0x40, 0, 0, 0, 7, 0, 0, 0, 0, 0, 0, 0, 8, 'o', 'f', 'e', 'r', 0, 0, 0, 0, 0, 18};
+    uint64_t a[RNIC_C_ARGUMENTS] = {0}, answer[RNIC_C_WORDS];
+    memset(rooms, 0x5A, sizeof rooms);
+    three[1] = device;
+    offer("offer of nothing", three, f, 0, RNIC_KEPT, 0, 0);
+    offer("offer of a byte", three, f, 1, RNIC_KEPT, 0, 1);
+    offer("offer of more", three, f + 1, 18, RNIC_KEPT, 0, 18);
+    expect_held(&three[1], f, 19);
+    rnic_c_receive(&three[1], store, STORE, 0, f, sizeof f, answer);
+    expect("receive while bytes are held", answer, RNIC_REFUSED, 16, 0);
+    rnic_c_call(&three[1], store, STORE, RNIC_RECEIVE, a, f, sizeof f, answer);
+    expect("receive by its number while bytes are held", answer, RNIC_REFUSED, 16, 0);
+    rnic_c_offer(&three[1], store, STORE, rooms, RNIC_C_ROOMS + 1, 0, f, sizeof f, answer);
+    expect("offer with other rooms", answer, RNIC_REFUSED, 2, 0);
+    rnic_c_offer(&three[1], store, STORE, rooms, RNIC_C_ROOMS, 16, f, sizeof f, answer);
+    expect("offer to no stream", answer, RNIC_REFUSED, 1, 0);
+    offer("offer of the rest", three, f + 19, 7, RNIC_TAKEN, 24, 5);
+    expect_held(&three[1], f, 0);
+    if (memcmp(store + 108, "ofer", 4) != 0 || memcmp(&three[1], &device, sizeof device) != 0) {
+        puts("offer: the payload is not in its place, or the device is another");
+        wrong = 1;
+    }
+    offer("offer of what is left", three, f + 24, 2, RNIC_KEPT, 0, 2);
+    expect_held(&three[1], f, 2);
+    if (rnic_c_held(&three[1], 1) != 0 || rnic_c_held(&three[1], 16) != 0) {
+        puts("held: another stream's bytes");
+        wrong = 1;
+    }
+    rnic_c_call(&three[1], store, STORE, RNIC_CLOSE_STREAM, a, f, 0, answer);
+    expect("close_stream, which empties", answer, RNIC_CLOSED, 1, 0);
+    expect_held(&three[1], f, 0);
+    expect_rooms();
+}
+
+/* A Write of four bytes to TO 8 of the window with STag 7, the CRC off: to stream 0 by each of the two entries of receive. */
 static void check_write(void) {
     uint8_t f[] = {0, 18, 0xC1, 0x40, 0, 0, 0, 7, 0, 0, 0, 0, 0, 0, 0, 8, 'a', 'b', 'c', 'd', 0, 0, 0, 0};
     uint64_t a[RNIC_C_ARGUMENTS] = {0}, answer[RNIC_C_WORDS];
@@ -196,6 +272,7 @@ int main(void) {
     call("register over a buffer", RNIC_REGISTER, 1, 7, 0, 1, 575, 1, RNIC_REFUSED, 19, 0);
     call("post over a window", RNIC_POST, 0, 355, 1, 0, 0, 0, RNIC_REFUSED, 19, 0);
     call("take", RNIC_TAKE, 0, 0, 0, 0, 0, 0, RNIC_REFUSED, 11, 0);
+    check_offer();
     check_write();
     call("drop_window", RNIC_DROP_WINDOW, 0, 0, 0, 0, 0, 0, RNIC_DONE, 0, 0);
     call("close_stream", RNIC_CLOSE_STREAM, 0, 0, 0, 0, 0, 0, RNIC_CLOSED, 1, 0);

@@ -2,7 +2,8 @@
 
 use std::hint::black_box;
 
-use host::{Window, RIGHT_READ, RIGHT_WRITE};
+use host::{Rooms, Window, RIGHT_READ, RIGHT_WRITE};
+use oracle::mpa::CRC_FIELD;
 use oracle::state::Device as Second;
 
 use crate::measure::{measure, Times, Work};
@@ -53,6 +54,14 @@ pub enum Step {
     ReceiveHalf(u64),
     /// Receives it with a byte of the store left out.
     ReceiveShort(u64),
+    /// Offers it whole.
+    Offer(u64),
+    /// Offers what stands before its CRC.
+    OfferFront(u64),
+    /// Offers its CRC.
+    OfferCrc(u64),
+    /// Offers nothing.
+    OfferNothing(u64),
 }
 
 /// What is done in one operation: its steps, on a device that other steps have made ready, with an FPDU to receive.
@@ -151,6 +160,7 @@ pub struct Bed<R> {
     device: R,
     scene: Scene,
     store: Vec<u8>,
+    rooms: Rooms,
     bytes: Vec<u8>,
     number: u32,
 }
@@ -166,6 +176,7 @@ impl<R: Receiver> Bed<R> {
             device: scene.device(),
             scene,
             store: vec![0; scene.store as usize],
+            rooms: Rooms::new(),
             bytes: act.bytes.clone(),
             number: 0,
         };
@@ -218,6 +229,22 @@ impl<R: Receiver> Bed<R> {
             Step::ReceiveShort(stream) => {
                 let (bytes, lent) = (black_box(&self.bytes[..]), self.store.len() - 1);
                 device.receive(&mut self.store[..lent], black_box(stream), bytes)
+            }
+            Step::Offer(stream) => {
+                let bytes = black_box(&self.bytes[..]);
+                device.offer(&mut self.store, &mut self.rooms, stream, bytes)
+            }
+            Step::OfferFront(stream) => {
+                let bytes = black_box(&self.bytes[..self.bytes.len() - CRC_FIELD]);
+                device.offer(&mut self.store, &mut self.rooms, stream, bytes)
+            }
+            Step::OfferCrc(stream) => {
+                let bytes = black_box(&self.bytes[self.bytes.len() - CRC_FIELD..]);
+                device.offer(&mut self.store, &mut self.rooms, stream, bytes)
+            }
+            Step::OfferNothing(stream) => {
+                let bytes = black_box(&self.bytes[..0]);
+                device.offer(&mut self.store, &mut self.rooms, stream, bytes)
             }
         }
     }

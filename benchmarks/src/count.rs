@@ -71,6 +71,7 @@ fn counted() -> Vec<Counted> {
     counted.extend(of_the_host());
     counted.extend(writes());
     counted.extend(untagged());
+    counted.extend(offers());
     let refused = refusals::peers().into_iter().chain(refusals::locals());
     counted.extend(refused.map(|act| {
         let received = act.steps.contains(&RECEIVE);
@@ -157,4 +158,37 @@ fn untagged() -> [Counted; 5] {
         named("receive: Read Request", calls::read_and_take(), RECEIVE),
         named("receive: Terminate", terminate, RECEIVE),
     ]
+}
+
+/// Gives offers of Writes: whole, and cut before the CRC; and one of nothing to a stream that holds bytes.
+fn offers() -> Vec<Counted> {
+    let (whole, front) = (Step::Offer(STREAM), Step::OfferFront(STREAM));
+    let (crc_field, nothing) = (Step::OfferCrc(STREAM), Step::OfferNothing(STREAM));
+    let mut counted = Vec::new();
+    for crc in [false, true] {
+        for size in [64, 2034] {
+            let setting = if crc { ", CRC on" } else { "" };
+            let name = format!("Write of {} bytes{setting}", grouped(size as u64));
+            let bytes = frame(&write_of(size).ulpdu(), 0);
+            let reopened = [CLOSE, Step::OpenStream(STREAM, crc)];
+            let offered = act!("", [Step::Offer(STREAM)], bytes.clone()).after(&reopened);
+            counted.push(named(format!("offer: {name}"), offered, whole));
+            let cut = act!(
+                "",
+                [Step::OfferFront(STREAM), Step::OfferCrc(STREAM)],
+                bytes
+            );
+            let cut = cut.after(&reopened);
+            counted.push(named(
+                format!("offer: {name}, before the CRC"),
+                cut.clone(),
+                front,
+            ));
+            counted.push(named(format!("offer: {name}, the CRC"), cut, crc_field));
+        }
+    }
+    let bytes = frame(&write_of(64).ulpdu(), 0);
+    let none = act!("", [Step::OfferNothing(STREAM)], bytes).after(&[front]);
+    counted.push(named("offer: nothing, while bytes are held", none, nothing));
+    counted
 }

@@ -41,7 +41,7 @@ fn bytes() {
 }
 
 /// Gives the slope of the straight line nearest to some points, by least squares.
-fn slope(points: &[(f64, f64)]) -> f64 {
+pub fn slope(points: &[(f64, f64)]) -> f64 {
     let count = points.len() as f64;
     let (x, y) = points
         .iter()

@@ -11,6 +11,7 @@ mod growth;
 mod measure;
 mod messages;
 mod nights;
+mod offers;
 mod receive;
 mod receiver;
 mod refusals;
@@ -49,6 +50,7 @@ fn write() {
     crc::write();
     messages::write();
     receive::write();
+    offers::write();
     calls::write();
     refusals::write();
     nights::write();

@@ -2,10 +2,10 @@
 
 use std::hint::black_box;
 
-use host::Window;
+use host::{Rooms, Window};
 use oracle::command::{parse, Command, Line};
 use oracle::generate::nights::{write_spoilt_script, FAULTY};
-use oracle::state::Device as Second;
+use oracle::state::{Device as Second, HELD};
 
 use crate::measure::{measure, repeated, Work};
 use crate::receive::on_off;
@@ -17,8 +17,24 @@ const STORE: usize = 65_536;
 /// Lines of a night's script, nearly all of which are calls.
 const LINES: u64 = 3000;
 
-/// A call with the count of bytes that it lends.
-type Call = (Command, usize);
+/// A call with the counts of bytes that it lends, of the store and of the rooms.
+type Call = (Command, usize, usize);
+
+/// What the calls lend.
+struct Lent {
+    store: Vec<u8>,
+    rooms: Rooms,
+}
+
+impl Lent {
+    /// Gives zeros.
+    fn new() -> Self {
+        Lent {
+            store: vec![0; STORE],
+            rooms: Rooms::new(),
+        }
+    }
+}
 
 /// Writes the table.
 pub fn write() {
@@ -79,11 +95,12 @@ fn call(line: &[u8], crc: bool, lent: &mut usize) -> Option<Call> {
     let Line::Command(mut command) = parse(line) else {
         return None;
     };
-    let mut own = None;
+    let (mut own, mut rooms) = (None, None);
     match &mut command {
         Command::Open { length, .. } => *lent = STORE.min(*length as usize),
         Command::Stream { crc: setting, .. } => *setting = crc,
-        Command::Receive { lent, .. } => own = lent.map(|lent| lent as usize),
+        Command::Receive { lent, .. } => own = *lent,
+        Command::Offer { lent, held, .. } => (own, rooms) = (*lent, *held),
         Command::Close(_)
         | Command::Register { .. }
         | Command::Drop(_)
@@ -93,17 +110,17 @@ fn call(line: &[u8], crc: bool, lent: &mut usize) -> Option<Call> {
         | Command::Free(_) => (),
         _ => return None,
     }
-    let lent = own.unwrap_or(*lent);
-    (lent <= STORE).then_some((command, lent))
+    let lent = own.map_or(*lent, |own| own as usize);
+    let rooms = rooms.map_or(HELD, |rooms| rooms as usize);
+    (lent <= STORE && rooms <= HELD).then_some((command, lent, rooms))
 }
 
 /// Leaves out the calls that are refused where those before them are left out.
 fn accepted(mut calls: Vec<Call>) -> Vec<Call> {
-    let mut device = Second::default();
-    let mut store = vec![0; STORE];
+    let (mut device, mut lent) = (Second::default(), Lent::new());
     calls.retain(|call| {
         let mut tried = device.clone();
-        let kept = !is_refused(&make(&mut tried, &mut store, call));
+        let kept = !is_refused(&make(&mut tried, &mut lent, call));
         if kept {
             device = tried;
         }
@@ -119,24 +136,25 @@ fn is_refused(outcome: &Outcome) -> bool {
 
 /// Gives the answers of a night, and the store after it.
 fn outcomes<R: Receiver>(calls: &[Call]) -> (Vec<Outcome>, Vec<u8>) {
-    let (mut device, mut store) = (R::new(), vec![0; STORE]);
-    let answered = calls.iter().map(|call| make(&mut device, &mut store, call));
-    (answered.collect(), store)
+    let (mut device, mut lent) = (R::new(), Lent::new());
+    let answered = calls.iter().map(|call| make(&mut device, &mut lent, call));
+    (answered.collect(), lent.store)
 }
 
 /// Gives the night as work, each time from a new device.
 fn replayed<R: Receiver + 'static>(calls: &[Call]) -> Work<'_> {
-    let mut store = vec![0; STORE];
+    let mut lent = Lent::new();
     repeated(move || {
         let mut device = R::new();
         for call in calls {
-            black_box(make(&mut device, &mut store, black_box(call)));
+            black_box(make(&mut device, &mut lent, black_box(call)));
         }
     })
 }
 
 /// Makes a call.
-fn make<R: Receiver>(device: &mut R, store: &mut [u8], (command, lent): &Call) -> Outcome {
+fn make<R: Receiver>(device: &mut R, lent: &mut Lent, call: &Call) -> Outcome {
+    let (command, store, rooms) = call;
     match *command {
         Command::Open { length, parts } => {
             device.open(length, parts.map(|part| (part.start, part.end)))
@@ -168,7 +186,13 @@ fn make<R: Receiver>(device: &mut R, store: &mut [u8], (command, lent): &Call) -
         } => device.post(stream, start, length),
         Command::Receive {
             stream, ref bytes, ..
-        } => device.receive(&mut store[..*lent], stream, bytes),
+        } => device.receive(&mut lent.store[..*store], stream, bytes),
+        Command::Offer {
+            stream, ref bytes, ..
+        } => {
+            let (store, rooms) = (&mut lent.store[..*store], &mut lent.rooms[..*rooms]);
+            device.offer(store, rooms, stream, bytes)
+        }
         Command::Take(stream) => device.take(stream),
         Command::Live(domain) => device.live(domain),
         Command::Free(domain) => device.free(domain),

@@ -1,10 +1,11 @@
 //! The receivers that are compared, each set up by the same calls.
 
-use host::{Error, Received, Window};
+use host::{Error, Offered, Received, Window};
 use oracle::mpa::{read_fpdu, Frame, CRC_FIELD};
+use oracle::offer::Offered as SecondOffered;
 use oracle::receive::{Answer, Event as SecondEvent};
 use oracle::refusal::{Refusal, WRONG_CRC};
-use oracle::state::{Condition, Device as Second, Part, STREAMS};
+use oracle::state::{Condition, Device as Second, Part, HELD, STREAMS};
 
 use crate::crc::eight_tables;
 
@@ -19,6 +20,14 @@ pub enum Outcome {
     Wait(usize),
     /// An FPDU of this total was taken, which completes a Send or not.
     Taken { total: usize, sent: bool },
+    /// So many bytes of an offer are kept, all of them.
+    Kept(usize),
+    /// So many bytes of an offer were taken, which complete an FPDU of this total.
+    Completed {
+        taken: usize,
+        total: usize,
+        sent: bool,
+    },
     /// The number of a refusal, of the host's call or of the peer's bytes.
     Refused(u8),
 }
@@ -47,6 +56,8 @@ pub trait Receiver {
     fn free(&mut self, domain: u64) -> Outcome;
     /// Takes an FPDU.
     fn receive(&mut self, store: &mut [u8], stream: u64, bytes: &[u8]) -> Outcome;
+    /// Takes bytes of an FPDU, or keeps them.
+    fn offer(&mut self, store: &mut [u8], rooms: &mut [u8], stream: u64, bytes: &[u8]) -> Outcome;
 }
 
 /// Ours, through the C interface.
@@ -118,6 +129,23 @@ impl Receiver for Ours {
                 sent: matches!(event, host::Event::Send { .. }),
             },
             Received::Ended(fault) => Outcome::Refused(fault.number),
+        })
+    }
+
+    fn offer(&mut self, store: &mut [u8], rooms: &mut [u8], stream: u64, bytes: &[u8]) -> Outcome {
+        let offered = host::Device::offer(self, store, rooms, stream, bytes);
+        ours(offered, |offered| match offered {
+            Offered::Kept { taken } => Outcome::Kept(taken),
+            Offered::Taken {
+                taken,
+                total,
+                event,
+            } => Outcome::Completed {
+                taken,
+                total,
+                sent: matches!(event, host::Event::Send { .. }),
+            },
+            Offered::Ended(fault) => Outcome::Refused(fault.number),
         })
     }
 }
@@ -195,6 +223,19 @@ impl Receiver for Second {
             Answer::Fault(fault) => Outcome::Refused(fault.number),
         }
     }
+
+    fn offer(&mut self, store: &mut [u8], rooms: &mut [u8], stream: u64, bytes: &[u8]) -> Outcome {
+        match Second::offer(self, store, rooms.len() as u64, stream, bytes) {
+            SecondOffered::Held { took } => Outcome::Kept(took),
+            SecondOffered::Taken { took, total, event } => Outcome::Completed {
+                taken: took,
+                total,
+                sent: matches!(event, SecondEvent::Send { .. }),
+            },
+            SecondOffered::Refused(refusal) => Outcome::Refused(refusal as u8),
+            SecondOffered::Fault(fault) => Outcome::Refused(fault.number),
+        }
+    }
 }
 
 /// The second program with its CRC by eight tables: its own check is off, and the bytes are checked before it.
@@ -204,21 +245,36 @@ pub struct Eight {
 }
 
 impl Eight {
-    /// Says whether the second program would find a wrong CRC: no refusal of the host's call and no other of the frame is
-    /// asked before it, but for a frame that is too long or not whole.
-    fn is_wrong(&self, store: &[u8], stream: u64, bytes: &[u8]) -> bool {
+    /// Says whether the second program would look at a stream's bytes, and at their CRC: no refusal of the host's call is
+    /// asked before it.
+    fn checks(&self, store: &[u8], stream: u64) -> bool {
         let number = stream as usize;
-        if self.checked.get(number) != Some(&true)
-            || store.len() as u64 != self.device.length
-            || self.device.streams[number].condition != Condition::Open
-        {
-            return false;
-        }
+        self.checked.get(number) == Some(&true)
+            && store.len() as u64 == self.device.length
+            && self.device.streams[number].condition == Condition::Open
+    }
+
+    /// Says whether it would find a wrong CRC: no other refusal of the frame is asked before it, but for a frame that is too
+    /// long or not whole.
+    fn is_wrong(bytes: &[u8]) -> bool {
         let Frame::Whole { total, .. } = read_fpdu(false, bytes) else {
             return false;
         };
         let (covered, crc) = bytes[..total].split_at(total - CRC_FIELD);
         crc != eight_tables(covered).to_le_bytes()
+    }
+
+    /// Says whether a stream holds bytes.
+    fn holds(&self, stream: u64) -> bool {
+        !self.device.streams[stream as usize].held.is_empty()
+    }
+
+    /// Ends a stream by a wrong CRC.
+    fn end(&mut self, stream: u64) -> Outcome {
+        let record = &mut self.device.streams[stream as usize];
+        record.condition = Condition::Faulted(WRONG_CRC);
+        record.held.clear();
+        Outcome::Refused(WRONG_CRC.number)
     }
 }
 
@@ -271,10 +327,24 @@ impl Receiver for Eight {
     }
 
     fn receive(&mut self, store: &mut [u8], stream: u64, bytes: &[u8]) -> Outcome {
-        if self.is_wrong(store, stream, bytes) {
-            self.device.streams[stream as usize].condition = Condition::Faulted(WRONG_CRC);
-            return Outcome::Refused(WRONG_CRC.number);
+        if self.checks(store, stream) && !self.holds(stream) && Eight::is_wrong(bytes) {
+            return self.end(stream);
         }
         Receiver::receive(&mut self.device, store, stream, bytes)
+    }
+
+    fn offer(&mut self, store: &mut [u8], rooms: &mut [u8], stream: u64, bytes: &[u8]) -> Outcome {
+        if self.checks(store, stream) && rooms.len() == HELD {
+            let wrong = match self.holds(stream) {
+                false => Eight::is_wrong(bytes),
+                true => {
+                    Eight::is_wrong(&[&self.device.streams[stream as usize].held, bytes].concat())
+                }
+            };
+            if wrong {
+                return self.end(stream);
+            }
+        }
+        Receiver::offer(&mut self.device, store, rooms, stream, bytes)
     }
 }

@@ -178,7 +178,7 @@ macro_rules! local {
 }
 
 /// Gives an act for each refusal of the host's calls.
-pub fn locals() -> [Act; 13] {
+pub fn locals() -> [Act; 14] {
     let none = Vec::new();
     let good = frame(&write_of(SIZE).ulpdu(), 0);
     let bad = frame(&Draft::new(true, rdmap::READ_REQUEST).ulpdu(), 0);
@@ -205,6 +205,7 @@ pub fn locals() -> [Act; 13] {
             name: named(11, &take.name),
             ..take
         },
+        local!(16, "receive, stream holds bytes", RECEIVE, good).after(&[Step::OfferFront(STREAM)]),
         local!(19, "register over a buffer", REGISTER, none).after(&[BELOW]),
         local!(19, "post over a window", OVER, none),
     ]

@@ -49,7 +49,7 @@ fn streams(scene: Scene) -> u64 {
 }
 
 /// Gives the receiving as work; the streams of Sends are opened anew between, while the clock stands.
-fn receiving<R: Receiver + 'static>(scene: Scene, frames: &[Vec<u8>]) -> Work<'_> {
+pub fn receiving<R: Receiver + 'static>(scene: Scene, frames: &[Vec<u8>]) -> Work<'_> {
     let mut device: R = scene.device();
     let mut store = vec![0; scene.store as usize];
     if scene.kind == Kind::Write {

@@ -53,6 +53,21 @@ pub enum Received {
     Ended(Fault),
 }
 
+/// What an offer gives where it is not refused; `taken` counts the bytes of this call that need not be offered again.
+#[derive(Clone, Copy, Debug, PartialEq, Eq)]
+pub enum Offered {
+    /// The FPDU is not whole: the stream holds all of the bytes.
+    Kept { taken: usize },
+    /// An FPDU of this total length is whole and was taken, with what it reports.
+    Taken {
+        taken: usize,
+        total: usize,
+        event: Event,
+    },
+    /// The peer's bytes were refused, and the stream has ended and holds nothing.
+    Ended(Fault),
+}
+
 /// What a taken FPDU reports.
 #[derive(Clone, Copy, Debug, PartialEq, Eq)]
 pub enum Event {

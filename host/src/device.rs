@@ -3,7 +3,7 @@
 use std::fmt;
 use std::ops::Range;
 
-use crate::answer::{Closed, Error, ReadRequest, Received};
+use crate::answer::{Closed, Error, Offered, ReadRequest, Received};
 use crate::raw::{self, call, Arguments, Rnic, Words};
 use crate::words;
 
@@ -22,8 +22,9 @@ pub struct Window {
     pub rights: u64,
 }
 
-/// A receiver with four domains, which owns its state; the store is lent at each receive. Two are equal where their words
-/// are, which turn on their calls alone; from then on the same calls have the same answers on both.
+/// A receiver with four domains, which owns its state; the store is lent at each receive, and the rooms at each offer. Two
+/// are equal where their words are, which turn on their calls alone; from then on the same calls have the same answers on
+/// both, offers too where their rooms hold the same bytes.
 #[derive(Clone, PartialEq, Eq)]
 pub struct Device {
     state: Box<Rnic>,
@@ -118,7 +119,8 @@ impl Device {
         words::counted(&self.call(call::LOWEST_FREE, &[domain]))
     }
 
-    /// Takes the first FPDU of some bytes for a stream; the whole store is lent.
+    /// Takes the first FPDU of some bytes for a stream; the whole store is lent. It is refused with 16 while the stream holds
+    /// bytes of an offer.
     #[inline]
     pub fn receive(
         &mut self,
@@ -141,6 +143,42 @@ impl Device {
             );
         }
         words::received(&answer)
+    }
+
+    /// Takes bytes for a stream that may be cut anywhere, up to the end of the first FPDU that they complete; what completes
+    /// none is kept in the stream's room. The caller offers the rest again, as long as there is some. The whole store is lent,
+    /// and all of the [`crate::Rooms`] as the last offer left them.
+    #[inline]
+    pub fn offer(
+        &mut self,
+        store: &mut [u8],
+        rooms: &mut [u8],
+        stream: u64,
+        bytes: &[u8],
+    ) -> Result<Offered, Error> {
+        let mut answer = [0; 8];
+        // SAFETY: as in `receive`; the rooms are borrowed for writing, too.
+        unsafe {
+            raw::rnic_c_offer(
+                &mut *self.state,
+                store.as_mut_ptr(),
+                store.len(),
+                rooms.as_mut_ptr(),
+                rooms.len(),
+                stream,
+                bytes.as_ptr(),
+                bytes.len(),
+                &mut answer,
+            );
+        }
+        words::offered(&answer)
+    }
+
+    /// Gives how many bytes a stream holds: 0 where it is closed or has ended, and where there is no such stream.
+    #[inline]
+    pub fn held(&self, stream: u64) -> u32 {
+        // SAFETY: the pointer is that of a reference held for the call; the other is a number.
+        unsafe { raw::rnic_c_held(&*self.state, stream) }
     }
 
     /// Makes a call that is lent neither store nor bytes and gives its answer's words; arguments left out are 0.

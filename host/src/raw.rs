@@ -17,6 +17,11 @@ impl Rnic {
     };
 }
 
+/// Bytes of one stream's room, the longest FPDU: `RNIC_C_ROOM` of the header.
+pub const ROOM: usize = 2056;
+/// Bytes of the rooms of all sixteen streams, which an offer is lent: `RNIC_C_ROOMS` of the header.
+pub const ROOMS: usize = 16 * ROOM;
+
 /// The nine argument words of a call, those that it does not use being passed over.
 pub type Arguments = [u64; 9];
 /// The eight words of an answer, the first its kind and those without a use 0.
@@ -66,6 +71,7 @@ pub mod kind {
     pub const SENT_INVALIDATING: u64 = 8;
     pub const TERMINATED: u64 = 9;
     pub const ENDED: u64 = 10;
+    pub const KEPT: u64 = 11;
 }
 
 extern "C" {
@@ -98,6 +104,28 @@ extern "C" {
         bytes_len: usize,
         answer: *mut Words,
     );
+
+    /// Takes the bytes of an offer for a stream up to the end of the first FPDU that they complete, or keeps them all.
+    ///
+    /// # Safety
+    /// As for `rnic_c_call`; `rooms` points at `rooms_len` bytes, which overlap none of the others.
+    pub fn rnic_c_offer(
+        device: *mut Rnic,
+        store: *mut u8,
+        store_len: usize,
+        rooms: *mut u8,
+        rooms_len: usize,
+        stream: u64,
+        bytes: *const u8,
+        bytes_len: usize,
+        answer: *mut Words,
+    );
+
+    /// Gives how many bytes a stream holds.
+    ///
+    /// # Safety
+    /// `device` points at a value that nothing else writes meanwhile.
+    pub fn rnic_c_held(device: *const Rnic, stream: u64) -> u32;
 
     /// Gives the CRC-32C of some bytes.
     ///

@@ -1,6 +1,6 @@
 //! An answer's words, read as what the call made answers.
 
-use crate::answer::{Closed, Error, Event, Fault, ReadRequest, Received};
+use crate::answer::{Closed, Error, Event, Fault, Offered, ReadRequest, Received};
 use crate::raw::{kind, Words};
 
 /// Gives what a reader finds in the words, or the refusal or the words where it finds nothing.
@@ -69,17 +69,42 @@ pub(crate) fn counted(words: &Words) -> Result<u32, Error> {
 pub(crate) fn received(words: &Words) -> Result<Received, Error> {
     read(words, |words| match *words {
         [kind::WAIT, total, 0, 0, 0, 0, 0, 0] => Some(Received::Wait(field(total)?)),
-        [kind::ENDED, number, layer, etype, code, 0, 0, 0] => Some(Received::Ended(Fault {
-            number: field(number)?,
-            layer: field(layer)?,
-            etype: field(etype)?,
-            code: field(code)?,
-        })),
+        [kind::ENDED, ..] => Some(Received::Ended(fault(words)?)),
         [_, total, ..] => Some(Received::Taken {
             total: field(total)?,
             event: event(words)?,
         }),
     })
+}
+
+/// Reads the answer of an offer, whose events are receive's with a word more: how many bytes were taken.
+#[inline]
+pub(crate) fn offered(words: &Words) -> Result<Offered, Error> {
+    read(words, |words| match *words {
+        [kind::ENDED, ..] => Some(Offered::Ended(fault(words)?)),
+        [kind::KEPT, 0, 0, 0, 0, 0, taken, 0] => Some(Offered::Kept {
+            taken: field(taken)?,
+        }),
+        [kind, total, a, b, c, d, taken, last] => Some(Offered::Taken {
+            taken: field(taken)?,
+            total: field(total)?,
+            event: event(&[kind, total, a, b, c, d, 0, last])?,
+        }),
+    })
+}
+
+/// Reads a refusal of the peer's bytes.
+#[inline]
+fn fault(words: &Words) -> Option<Fault> {
+    match *words {
+        [kind::ENDED, number, layer, etype, code, 0, 0, 0] => Some(Fault {
+            number: field(number)?,
+            layer: field(layer)?,
+            etype: field(etype)?,
+            code: field(code)?,
+        }),
+        _ => None,
+    }
 }
 
 /// Reads what a taken FPDU reports.
@@ -120,9 +145,11 @@ mod tests {
     fn words_that_are_no_answer() {
         let large = 1 << 40;
         for words in [
-            [11, 0, 0, 0, 0, 0, 0, 0],
+            [12, 0, 0, 0, 0, 0, 0, 0],
+            [kind::KEPT, 0, 0, 0, 0, 0, 0, 0],
             [u64::MAX; 8],
             [kind::TAKEN, 20, 1, 0, 0, 0, 0, 0],
+            [kind::TAKEN, 20, 0, 0, 0, 0, 20, 0],
             [kind::SENT, 32, large, 5, 3, 0, 0, 0],
             [kind::ENDED, large, 1, 1, 1, 0, 0, 0],
             [kind::DONE, 0, 0, 0, 0, 0, 0, 0],
@@ -134,5 +161,29 @@ mod tests {
         assert_eq!(done(&waits), Err(Error::Unexpected(waits)));
         let refused = [kind::REFUSED, 9, 0, 0, 0, 0, 0, 0];
         assert_eq!(closed(&refused), Err(Error::Refused(9)));
+    }
+
+    /// The same of an offer, which has no Wait.
+    #[test]
+    fn words_that_are_no_answer_of_an_offer() {
+        let large = 1 << 40;
+        for words in [
+            [12, 0, 0, 0, 0, 0, 0, 0],
+            [u64::MAX; 8],
+            [kind::WAIT, 20, 0, 0, 0, 0, 0, 0],
+            [kind::KEPT, 1, 0, 0, 0, 0, 1, 0],
+            [kind::KEPT, 0, 0, 0, 0, 0, 1, 1],
+            [kind::TAKEN, 20, 1, 0, 0, 0, 20, 0],
+            [kind::TAKEN, 20, 0, 0, 0, 0, 20, 1],
+            [kind::SENT, 32, large, 5, 3, 0, 32, 0],
+            [kind::ENDED, 20, 1, 1, 1, 0, 1, 0],
+            [kind::REFUSED, 5, 0, 0, 0, 0, 1, 0],
+        ] {
+            assert_eq!(offered(&words), Err(Error::Unexpected(words)));
+        }
+        let kept = [kind::KEPT, 0, 0, 0, 0, 0, 3, 0];
+        assert_eq!(offered(&kept), Ok(Offered::Kept { taken: 3 }));
+        let refused = [kind::REFUSED, 2, 0, 0, 0, 0, 0, 0];
+        assert_eq!(offered(&refused), Err(Error::Refused(2)));
     }
 }

@@ -47,6 +47,13 @@ pub enum Command {
         bytes: Vec<u8>,
         lent: Option<u64>,
     },
+    Offer {
+        stream: u64,
+        bytes: Vec<u8>,
+        lent: Option<u64>,
+        held: Option<u64>,
+    },
+    Held(u64),
     Take(u64),
     Live(u64),
     Free(u64),
@@ -120,6 +127,7 @@ pub fn parse(line: &[u8]) -> Line {
         return Line::Silent;
     }
     device_command(&words)
+        .or_else(|| offer_command(&words))
         .or_else(|| store_command(&words))
         .or_else(|| frame_command(&words))
         .or_else(|| crc_command(&words))
@@ -167,6 +175,26 @@ fn device_command(words: &[&[u8]]) -> Option<Command> {
         [b"live", domain] => Command::Live(number(domain)?),
         [b"free", domain] => Command::Free(number(domain)?),
         _ => return None,
+    })
+}
+
+/// Reads the commands on bytes that TCP cuts.
+fn offer_command(words: &[&[u8]]) -> Option<Command> {
+    let [word, stream, ref rest @ ..] = *words else {
+        return None;
+    };
+    let (bytes, lent, held) = match (word, rest) {
+        (b"held", []) => return Some(Command::Held(number(stream)?)),
+        (b"offer", &[bytes]) => (bytes, None, None),
+        (b"offer", &[bytes, lent]) => (bytes, Some(number(lent)?), None),
+        (b"offer", &[bytes, lent, held]) => (bytes, Some(number(lent)?), Some(number(held)?)),
+        _ => return None,
+    };
+    Some(Command::Offer {
+        stream: number(stream)?,
+        bytes: hex::decode(bytes)?,
+        lent,
+        held,
     })
 }
 

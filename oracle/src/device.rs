@@ -1,4 +1,4 @@
-//! Every call on the box but receive.
+//! Every call on the box but receive and offer.
 
 use crate::rdmap::ReadRequest;
 use crate::refusal::Refusal;

@@ -1,10 +1,12 @@
 //! An RDMA receiver (MPA, DDP, RDMAP) written as a plain state machine, driven by replay scripts.
 //!
 //! The wire forms (`crc`, `pieces`, `mpa`, `startup`, `ddp`, `rdmap`) know nothing of the state. Read `state` first, then
-//! `device` for the calls, with `sharing`, and `receive`, whose rules stand in `judge` and `target`. `script` runs the lines
-//! that `command` takes apart; `generate` writes random ones. `sender` writes messages, and knows nothing of the device.
+//! `device` for the calls, with `sharing`, and `receive`, whose rules stand in `judge` and `target`; `offer` is receive on a
+//! stream that holds a partial FPDU. `script` runs the lines that `command` takes apart; `generate` writes random ones.
+//! `sender` writes messages, and knows nothing of the device; `capture` reads streams of another implementation.
 
 pub mod bigendian;
+pub mod capture;
 pub mod command;
 pub mod crc;
 pub mod ddp;
@@ -14,6 +16,7 @@ pub mod generate;
 pub mod hex;
 mod judge;
 pub mod mpa;
+pub mod offer;
 pub mod pieces;
 pub mod rdmap;
 pub mod receive;

@@ -11,6 +11,9 @@ pub const LENGTH_FIELD: usize = 2;
 /// Bytes of the CRC field.
 pub const CRC_FIELD: usize = 4;
 
+/// Bytes of the longest FPDU.
+pub const MAX_FPDU: usize = fpdu_total(MAX_ULPDU);
+
 /// What reading an FPDU gives.
 #[derive(Clone, Copy, Debug, PartialEq, Eq)]
 pub enum Frame<'a> {
@@ -20,7 +23,7 @@ pub enum Frame<'a> {
 }
 
 /// Gives the total length of an FPDU with a ULPDU of this length.
-pub fn fpdu_total(ulpdu_length: usize) -> usize {
+pub const fn fpdu_total(ulpdu_length: usize) -> usize {
     (LENGTH_FIELD + ulpdu_length).next_multiple_of(4) + CRC_FIELD
 }
 

@@ -35,6 +35,14 @@ impl Device {
             Ok(number) => number,
             Err(refusal) => return Answer::Refused(refusal),
         };
+        if !self.streams[number].held.is_empty() {
+            return Answer::Refused(Refusal::Holds);
+        }
+        self.take_first(store, number, bytes)
+    }
+
+    /// Handles the first FPDU of `bytes` on an open stream.
+    pub(crate) fn take_first(&mut self, store: &mut [u8], number: usize, bytes: &[u8]) -> Answer {
         let (total, ulpdu) = match read_fpdu(self.streams[number].crc, bytes) {
             Frame::Wait(total) => return Answer::Wait(total),
             Frame::Fault(fault) => return self.end(number, fault),
@@ -49,8 +57,8 @@ impl Device {
         }
     }
 
-    /// Asks the local refusals of receive.
-    fn admit(&self, lent: usize, stream: u64) -> Result<usize, Refusal> {
+    /// Asks the local refusals that receive and offer have in common.
+    pub(crate) fn admit(&self, lent: usize, stream: u64) -> Result<usize, Refusal> {
         if stream >= STREAMS as u64 {
             return Err(Refusal::OutOfRange);
         }
@@ -60,9 +68,11 @@ impl Device {
         self.usable(stream)
     }
 
-    /// Ends a stream, which keeps the fault's code.
+    /// Ends a stream, which keeps the fault's code and holds nothing.
     fn end(&mut self, stream: usize, fault: Fault) -> Answer {
-        self.streams[stream].condition = Condition::Faulted(fault);
+        let record = &mut self.streams[stream];
+        record.condition = Condition::Faulted(fault);
+        record.held.clear();
         Answer::Fault(fault)
     }
 

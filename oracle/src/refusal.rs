@@ -21,6 +21,7 @@ pub enum Refusal {
     NoRoom = 13,
     BadStartup = 14,
     Markers = 15,
+    Holds = 16,
     Shared = 19,
 }
 
@@ -90,7 +91,7 @@ pub const SOURCE_BOUNDS: Fault = fault(38, 0, 1, 0x01);
 pub const NO_READ_RIGHT: Fault = fault(38, 0, 1, 0x02);
 
 /// Every local refusal, in the order of the numbers.
-pub const REFUSALS: [Refusal; 16] = [
+pub const REFUSALS: [Refusal; 17] = [
     Refusal::OutOfRange,
     Refusal::LentLength,
     Refusal::NotOpen,
@@ -106,6 +107,7 @@ pub const REFUSALS: [Refusal; 16] = [
     Refusal::NoRoom,
     Refusal::BadStartup,
     Refusal::Markers,
+    Refusal::Holds,
     Refusal::Shared,
 ];
 

@@ -10,8 +10,8 @@ use crate::pieces::{carry_on, join};
 use crate::refusal::Refusal;
 use crate::sender::Message;
 use crate::startup::{read_startup, write_startup, Startup};
-use crate::state::Device;
-use crate::text::{answer_text, bad, crc_text, done, read_text, refused};
+use crate::state::{Device, HELD};
+use crate::text::{answer_text, bad, crc_text, done, offered_text, read_text, refused};
 
 /// Bytes of the program's store.
 pub const STORE: usize = 1_048_576;
@@ -90,6 +90,16 @@ impl Interpreter {
                 bytes,
                 lent,
             } => self.receive(stream, &bytes, lent),
+            Command::Offer {
+                stream,
+                bytes,
+                lent,
+                held,
+            } => self.offer(stream, &bytes, lent, held),
+            Command::Held(stream) => match device.held(stream) {
+                Some(count) => format!("held {count}"),
+                None => bad(),
+            },
             Command::Take(stream) => read_text(device.take_read(stream)?),
             Command::Live(domain) => format!("live {}", device.live(domain)?),
             Command::Free(domain) => format!("free {}", device.free(domain)?),
@@ -121,6 +131,17 @@ impl Interpreter {
         }
         let store = &mut self.store[..lent as usize];
         answer_text(self.device.receive(store, stream, bytes))
+    }
+
+    /// Offers with the store's front lent, and the front of the second slice.
+    fn offer(&mut self, stream: u64, bytes: &[u8], lent: Option<u64>, held: Option<u64>) -> String {
+        let lent = lent.unwrap_or(self.lent as u64);
+        let held = held.unwrap_or(HELD as u64);
+        if lent > self.store.len() as u64 || held > HELD as u64 {
+            return bad();
+        }
+        let store = &mut self.store[..lent as usize];
+        offered_text(self.device.offer(store, held, stream, bytes))
     }
 
     /// Keeps a message that was begun; a refused one leaves the one before.

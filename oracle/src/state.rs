@@ -1,6 +1,7 @@
 //! What the box holds: streams, windows, buffers and parts, with nothing that changes them.
 
 use crate::fifo::Fifo;
+use crate::mpa::MAX_FPDU;
 use crate::rdmap::ReadRequest;
 use crate::refusal::Fault;
 
@@ -11,6 +12,8 @@ pub const WINDOWS: usize = 64;
 pub const WINDOWS_PER_DOMAIN: usize = WINDOWS / DOMAINS;
 /// The longest store.
 pub const MAX_STORE: u64 = 16_777_216;
+/// Bytes of the second lent slice: one longest FPDU for each stream.
+pub const HELD: usize = STREAMS * MAX_FPDU;
 /// The write bit of a window's rights.
 pub const RIGHT_WRITE: u8 = 1;
 /// The read bit of a window's rights.
@@ -58,7 +61,8 @@ pub enum Condition {
     Terminated,
 }
 
-/// A stream; `sending` is the opcode of a Send under way and `taken` its bytes so far.
+/// A stream; `sending` is the opcode of a Send under way and `taken` its bytes so far; `held` is the front of an FPDU that is
+/// not whole yet.
 #[derive(Clone, Debug, Default, PartialEq, Eq)]
 pub struct Stream {
     pub condition: Condition,
@@ -68,6 +72,7 @@ pub struct Stream {
     pub reads: Fifo<ReadRequest>,
     pub sending: Option<u8>,
     pub taken: u64,
+    pub held: Vec<u8>,
 }
 
 /// The whole box but for the lent store.

@@ -72,12 +72,12 @@ fn answer_kind(answer: &str) -> String {
         return String::from(answer);
     }
     let mut kind = String::new();
-    for word in answer.split(' ').take(7) {
-        let named = ["send", "stag", "terminate"].contains(&word);
-        if kind.is_empty() || named {
-            if named {
-                kind.push(' ');
-            }
+    for word in answer.split(' ').take(9) {
+        let named = ["taken", "send", "stag", "terminate"].contains(&word);
+        if kind.is_empty() {
+            kind.push_str(word);
+        } else if named {
+            kind.push(' ');
             kind.push_str(word);
         }
     }

@@ -1,5 +1,6 @@
 //! The answers as lines of text.
 
+use crate::offer::Offered;
 use crate::rdmap::ReadRequest;
 use crate::receive::{Answer, Event};
 use crate::refusal::Refusal;
@@ -11,6 +12,18 @@ pub fn answer_text(answer: Answer) -> String {
         Answer::Taken { total, event } => format!("taken {total}{}", event_text(event)),
         Answer::Refused(refusal) => refused(refusal),
         Answer::Fault(fault) => format!("refused {fault}"),
+    }
+}
+
+/// Writes what offer answers.
+pub fn offered_text(answer: Offered) -> String {
+    match answer {
+        Offered::Held { took } => format!("took {took}"),
+        Offered::Taken { took, total, event } => {
+            format!("took {took} taken {total}{}", event_text(event))
+        }
+        Offered::Refused(refusal) => refused(refusal),
+        Offered::Fault(fault) => format!("refused {fault}"),
     }
 }
 

@@ -47,6 +47,7 @@ fn messages_reach_every_answer() {
         ("message", &["done", "refused 1", "refused 12"][..]),
         ("segment", &["wrote", "end", "refused 13"]),
         ("receive", &["taken", "taken send", "taken send stag"]),
+        ("offer", &["took", "took taken", "took taken send"]),
         ("-", &["bad"]),
     ] {
         for kind in kinds {
@@ -93,6 +94,18 @@ fn nights_reach_every_answer() {
         assert!(tally.count("receive", kind) > 100, "{kind}");
     }
     assert!(tally.count("receive", "taken terminate") > 100);
+    for kind in ["took", "took taken", "took taken send"] {
+        assert!(tally.count("offer", kind) > 300, "{kind}");
+    }
+    for kind in ["took taken send stag", "took taken terminate"] {
+        assert!(tally.count("offer", kind) > 50, "{kind}");
+    }
+    assert!(tally.count("held", "held") > 500);
+    assert!(tally.count("receive", "refused 16") > 50);
+    for number in [1, 2, 3, 5] {
+        let kind = format!("refused {number}");
+        assert!(tally.count("offer", &kind) > 20, "{kind}");
+    }
     for command in ["register", "post"] {
         assert!(tally.count(command, "done") > 1000, "{command}");
         assert!(tally.count(command, "refused 19") > 50, "{command}");
@@ -114,7 +127,8 @@ fn every_night_keeps_all_four_domains_busy() {
             std::io::sink(),
             |line, answer| {
                 let words: Vec<&[u8]> = line.split(|&byte| byte == b' ').collect();
-                if words[0] == b"receive" && answer.starts_with("taken") {
+                let called = words[0] == b"receive" || words[0] == b"offer";
+                if called && answer.contains("taken") {
                     let stream: usize = String::from_utf8_lossy(words[1]).parse().unwrap();
                     taken[stream / STREAMS_PER_DOMAIN] += 1;
                 }

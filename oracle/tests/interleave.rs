@@ -49,10 +49,21 @@ fn found(flaw: Flaw) -> usize {
     trials.filter(differ).count()
 }
 
-/// Gives the owner of the stream that a receive names, where its FPDU was taken.
+/// Says whether a line receives or offers bytes.
+fn brings_bytes(words: &[&str]) -> bool {
+    words[0] == "receive" || words[0] == "offer"
+}
+
+/// Gives the owner of the stream that a receive or an offer names, where an FPDU was taken.
 fn taken_for(words: &[&str], answer: &str) -> Option<usize> {
     let stream: usize = words.get(1)?.parse().ok()?;
-    (words[0] == "receive" && answer.starts_with("taken")).then_some(stream / STREAMS_PER_DOMAIN)
+    (brings_bytes(words) && answer.contains("taken")).then_some(stream / STREAMS_PER_DOMAIN)
+}
+
+/// Gives the stream of the next domain that has the same place in it as the one that a line names.
+fn neighbour(words: &[&str]) -> Option<usize> {
+    let stream: usize = words.get(1)?.parse().ok()?;
+    (stream < STREAMS).then_some((stream + STREAMS_PER_DOMAIN) % STREAMS)
 }
 
 /// Answers as it should.
@@ -62,11 +73,16 @@ fn sound(_: &mut Interpreter, _: &[&str], answer: String) -> String {
 
 /// Asks whether a window is live before it asks whose it is.
 fn live_before_whose(interpreter: &mut Interpreter, words: &[&str], answer: String) -> String {
-    if !answer.starts_with("refused 24") {
+    let stag = words.get(2).and_then(|bytes| bytes.get(8..16));
+    let stag = stag.and_then(|digits| u32::from_str_radix(digits, 16).ok());
+    let Some(stag) = stag.filter(|_| answer.starts_with("refused 24")) else {
         return answer;
-    }
-    let stag = u32::from_str_radix(&words[2][8..16], 16).unwrap();
-    let window = interpreter.device.windows[(stag >> 8) as usize];
+    };
+    let windows = &interpreter.device.windows;
+    let window = windows
+        .get((stag >> 8) as usize)
+        .copied()
+        .unwrap_or_default();
     match window.live && window.key == stag as u8 {
         true => answer,
         false => String::from("refused 25 1/1/00"),
@@ -117,7 +133,7 @@ fn spots_of_all_domains(interpreter: &mut Interpreter, words: &[&str], answer: S
 
 /// Ends the next domain's stream too where a stream ends.
 fn ends_another_stream(interpreter: &mut Interpreter, words: &[&str], answer: String) -> String {
-    if words[0] == "receive" && answer.contains('/') {
+    if brings_bytes(words) && answer.contains('/') {
         let stream: usize = words[1].parse().unwrap();
         let other = &mut interpreter.device.streams[(stream + STREAMS_PER_DOMAIN) % STREAMS];
         if other.condition == Condition::Open {
@@ -125,6 +141,36 @@ fn ends_another_stream(interpreter: &mut Interpreter, words: &[&str], answer: St
         }
     }
     answer
+}
+
+/// Writes over a byte that the next domain's stream holds, where a stream holds what it is offered.
+fn holds_in_anothers_room(interpreter: &mut Interpreter, words: &[&str], answer: String) -> String {
+    if words[0] == "offer" && answer.starts_with("took") && !answer.contains("taken") {
+        let other = neighbour(words).map(|other| &mut interpreter.device.streams[other]);
+        if let Some(byte) = other.and_then(|other| other.held.last_mut()) {
+            *byte ^= 0xFF;
+        }
+    }
+    answer
+}
+
+/// Empties what the next domain's stream holds too, where a stream is closed.
+fn close_empties_another(interpreter: &mut Interpreter, words: &[&str], answer: String) -> String {
+    if words[0] == "close" && answer.starts_with("closed") {
+        if let Some(other) = neighbour(words) {
+            interpreter.device.streams[other].held.clear();
+        }
+    }
+    answer
+}
+
+/// Refuses receive while a stream of any domain holds bytes.
+fn any_stream_holds(interpreter: &mut Interpreter, words: &[&str], answer: String) -> String {
+    let mut streams = interpreter.device.streams.iter();
+    match words[0] == "receive" && streams.any(|stream| !stream.held.is_empty()) {
+        true => String::from("refused 16"),
+        false => answer,
+    }
 }
 
 #[test]
@@ -144,9 +190,15 @@ fn own_calls_are_the_same_and_the_others_differ() {
 #[test]
 fn alone_or_among_others_the_answers_are_the_same() {
     assert_eq!(found(sound), 0);
-    let alone = own_answers(&lines(5, 2, 0), sound);
-    assert_eq!(alone, own_answers(&lines(5, 2, 1), sound));
-    assert!(alone.iter().any(|answer| answer.starts_with("taken")));
+    let mut all = Vec::new();
+    for seed in 5..10 {
+        let alone = own_answers(&lines(seed, 2, 0), sound);
+        assert_eq!(alone, own_answers(&lines(seed, 2, 1), sound));
+        all.extend(alone);
+    }
+    for kind in ["taken", "took", "held", "refused 16"] {
+        assert!(all.iter().any(|answer| answer.starts_with(kind)), "{kind}");
+    }
 }
 
 #[test]
@@ -157,6 +209,9 @@ fn flaws_are_found() {
         ("byte past the part", byte_past_the_part),
         ("ends another stream", ends_another_stream),
         ("spots of all domains", spots_of_all_domains),
+        ("holds in another's room", holds_in_anothers_room),
+        ("close empties another", close_empties_another),
+        ("any stream holds", any_stream_holds),
     ] {
         let found = found(flaw);
         println!("{name}: {found} of 12");

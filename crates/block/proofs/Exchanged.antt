@@ -5,7 +5,7 @@ use mathlib.Core.Logic.{inl, inr}
 use mathlib.Core.Path.{_≡_, refl, ap}
 use native.Mathlib.Omega.{arith}
 use lib.ListN.{getD}
-use Rattle.rdmap.specs.Stream.{inPhase, withSends, withReads}
+use Rattle.rdmap.specs.Stream.{inPhase, withSends, withReads, withFraming}
 use Rattle.domain.specs.Domain.{withStream}
 use Rattle.rnic.specs.Rnic.{withDomain}
 use Rattle.block.specs.Layout.{domainOffset, windowOffset, streamOffset, framingOffset, terminatesOffset, sendsOffset, readsOffset}
@@ -13,7 +13,7 @@ use Rattle.block.specs.Words.{lowerHalf, partIn}
 use Rattle.block.specs.Queue.{sendsIn, readsIn, terminatesIn}
 use Rattle.block.specs.Stream.{phaseIn, framingIn, loadedPhase, loadedFraming, loadedTerminates, loadedSends, loadedReads, loadedStream}
 use Rattle.block.specs.Device.{loadedLen, loadedPart, loadedWindow, loadedDomain, rnicAt}
-use Rattle.block.specs.Exchange.{withFraming, withTerminates, withPart, withWindow}
+use Rattle.block.specs.Exchange.{withTerminates, withPart, withWindow}
 use Rattle.block.proofs.Lists.{listed-same, listed-set}
 use Rattle.block.proofs.Outside.{SameOutside, differ, window-kept, stream-kept, domain-kept}
 

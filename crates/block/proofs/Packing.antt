@@ -10,13 +10,14 @@ use Rattle.memory.specs.Buffer.{noBuffer}
 use Rattle.memory.specs.declared.buffer.Buffer.{Buffer}
 use Rattle.memory.specs.declared.part.Part.{Part}
 use Rattle.memory.specs.declared.window.Window.{Window}
+use Rattle.rdmap.specs.declared.framing.Framing.{Framing}
 use Rattle.rdmap.specs.declared.phase.Phase.{Phase}
 use Rattle.rdmap.specs.declared.read.ReadRequest.{ReadRequest}
 use Rattle.rdmap.specs.declared.read.Reads.{Reads}
 use Rattle.rdmap.specs.declared.sends.Sends.{Sends}
 use Rattle.block.specs.Words.{sequence, pairWord, lowerHalf, upperHalf, flagWord, flagIn, partIn, partWords, bufferIn, bufferWord, windowIn, accessWord, windowWords}
 use Rattle.block.specs.Queue.{sendsIn, sendsWords, requestIn, requestWords, requestsIn, readsIn, readsWords}
-use Rattle.block.specs.Stream.{phaseIn, phaseWord, phaseWords}
+use Rattle.block.specs.Stream.{phaseIn, phaseWord, phaseWords, framingIn, framingWord, framingWords}
 
 pub lower-pair : (a b : ℕ) → a < 4294967296 → lowerHalf (pairWord a b) ≡ a
 lower-pair a b h = omega arith
@@ -43,9 +44,20 @@ flag-small : (b : Bool) → flagWord b ≤ 1
 flag-small true = omega arith
 flag-small false = omega arith
 
+flag-low : (b : Bool) (n : ℕ) → flagIn (flagWord b + n * 2) ≡ b
+flag-low true n = eq-eqb ((1 + n * 2) % 2) 1 (omega arith)
+flag-low false n = ne-eqb ((0 + n * 2) % 2) 1 (λ e. omega arith)
+
 pub flag-back : (b : Bool) (n : ℕ) → flagIn (flagWord b + n * 256) ≡ b
-flag-back true n = eq-eqb ((1 + n * 256) % 2) 1 (omega arith)
-flag-back false n = ne-eqb ((0 + n * 256) % 2) 1 (λ e. omega arith)
+flag-back b n = ap (λ (m : ℕ). flagIn (flagWord b + m)) (let e : n * 256 ≡ n * 128 * 2 = omega arith in e) ∙ flag-low b (n * 128)
+
+pub framing-back : (f : Framing) → f .held < 4294967296 → framingIn (framingWords f) ≡ f
+framing-back f h =
+    let small = flag-small (f .crc) in
+    let crc : flagIn (framingWord f) ≡ f .crc = flag-low (f .crc) (f .held) in
+    let q : framingWord f / 2 ≡ f .held = omega arith in
+    let held : framingWord f / 2 % 4294967296 ≡ f .held = ap (λ (n : ℕ). n % 4294967296) q ∙ omega arith in
+    λ i. record { crc = crc i; held = held i }
 
 pub window-back : (w : Window) → w .key < 256 → w .rights < 256 → w .place < 4294967296 → w .len < 4294967296 → windowIn (windowWords w) ≡ w
 window-back w hk hr hp hl =

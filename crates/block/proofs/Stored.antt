@@ -8,7 +8,7 @@ use Rattle.wire.specs.Wire.{part, put}
 use Rattle.memory.specs.Window.{noWindow, windowAt}
 use Rattle.memory.specs.declared.part.Part.{Part}
 use Rattle.memory.specs.declared.window.Window.{Window}
-use Rattle.rdmap.specs.Stream.{inPhase, withSends, withReads}
+use Rattle.rdmap.specs.Stream.{inPhase, withSends, withReads, withFraming}
 use Rattle.rdmap.specs.declared.framing.Framing.{Framing}
 use Rattle.rdmap.specs.declared.phase.Phase.{Phase}
 use Rattle.rdmap.specs.declared.read.Reads.{Reads}
@@ -23,7 +23,7 @@ use Rattle.block.specs.Words.{partWords, windowWords}
 use Rattle.block.specs.Queue.{sendsWords, readsWords, terminatesWords}
 use Rattle.block.specs.Stream.{phaseWords, framingWords, loadedPhase, loadedFraming, loadedTerminates, loadedSends, loadedReads, loadedStream, storedPhase, storedFraming, storedTerminates, storedSends, storedReads, storedStream, streamWords}
 use Rattle.block.specs.Device.{loadedLen, loadedPart, loadedWindow, loadedDomain, rnicAt, storedLen, storedPart, storedWindow}
-use Rattle.block.specs.Exchange.{withFraming, withTerminates, withPart, withWindow, streamOf, withStreamOf}
+use Rattle.block.specs.Exchange.{withTerminates, withPart, withWindow, streamOf, withStreamOf}
 use Rattle.block.proofs.Lists.{listed-at}
 use Rattle.block.proofs.Outside.{SameOutside, put-outside, wider}
 use Rattle.block.proofs.Exchanged.{phase-alone, framing-alone, terminates-alone, sends-alone, reads-alone, part-alone, window-alone, stream-alone, domain-alone, len-alone}

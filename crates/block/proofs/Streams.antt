@@ -6,13 +6,13 @@ use native.Mathlib.Omega.{arith}
 use lib.ListN.{length}
 use Rattle.wire.specs.Wire.{put}
 use Rattle.wire.proofs.Laws.{length-put, put-put}
-use Rattle.rdmap.specs.Stream.{inPhase, withSends, withReads}
+use Rattle.rdmap.specs.Stream.{inPhase, withSends, withReads, withFraming}
 use Rattle.rdmap.specs.declared.phase.Phase.{Phase}
 use Rattle.rdmap.specs.declared.stream.Stream.{Stream}
 use Rattle.block.specs.Layout.{streamOffset, framingOffset, terminatesOffset, sendsOffset, readsOffset}
 use Rattle.block.specs.Queue.{sendsWords, readsWords, terminatesWords}
 use Rattle.block.specs.Stream.{phaseWords, framingWords, loadedPhase, loadedFraming, loadedTerminates, loadedSends, loadedReads, loadedStream, storedPhase, storedFraming, storedTerminates, storedSends, storedReads, storedStream}
-use Rattle.block.specs.Exchange.{withFraming, withTerminates}
+use Rattle.block.specs.Exchange.{withTerminates}
 use Rattle.block.proofs.Exchanged.{phase-alone, framing-alone, terminates-alone, sends-alone, reads-alone}
 use Rattle.block.proofs.Stored.{outside}
 

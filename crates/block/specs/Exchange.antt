@@ -3,7 +3,6 @@ use Prim.Native.Nat.{ℕ}
 use lib.ListN.{set}
 use Rattle.memory.specs.declared.part.Part.{Part}
 use Rattle.memory.specs.declared.window.Window.{Window}
-use Rattle.rdmap.specs.declared.framing.Framing.{Framing}
 use Rattle.rdmap.specs.declared.stream.Stream.{Stream}
 use Rattle.rdmap.specs.declared.terminates.Terminates.{Terminates}
 use Rattle.domain.specs.Domain.{streamAt, withStream, withWindows}
@@ -12,10 +11,6 @@ use Rattle.rnic.specs.Rnic.{domainAt, withDomain, newRnic}
 use Rattle.rnic.specs.declared.Rnic.{Rnic}
 
 -- of a stream
-abbrev pub withFraming : Stream → Framing → Stream
-withFraming s framing =
-    record { phase = s .phase; framing = framing; sends = s .sends; reads = s .reads; terminates = s .terminates }
-
 abbrev pub withTerminates : Stream → Terminates → Stream
 withTerminates s terminates =
     record { phase = s .phase; framing = s .framing; sends = s .sends; reads = s .reads; terminates = terminates }

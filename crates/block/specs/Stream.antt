@@ -35,12 +35,15 @@ phaseWord p =
 abbrev pub phaseWords : Phase → List ℕ
 phaseWords p = phaseWord p ∷ []
 
--- framing in one word: whether the CRC is on
+-- framing in one word: whether the CRC is on, and above it how many bytes are held, 32 bits
 abbrev pub framingIn : List ℕ → Framing
-framingIn g = record { crc = flagIn (getD g 0 0) }
+framingIn g = record { crc = flagIn (getD g 0 0); held = getD g 0 0 / 2 % 4294967296 }
+
+abbrev pub framingWord : Framing → ℕ
+framingWord f = flagWord (f .crc) + f .held * 2
 
 abbrev pub framingWords : Framing → List ℕ
-framingWords f = flagWord (f .crc) ∷ []
+framingWords f = framingWord f ∷ []
 
 -- ---- the groups of the stream of a domain's slot
 

@@ -3,9 +3,9 @@ ghost use mathlib.Core.Path.{_≡_};
 ghost use mathlib.Core.List.{_∷_, []};
 ghost use lib.ListN.{length};
 ghost use Rattle.block.specs.Layout.{blockWords};
-ghost use Rattle.block.specs.Words.{flagWord};
 ghost use Rattle.block.specs.Stream.{
   framingIn,
+  framingWord,
   framingWords,
   loadedFraming,
   storedFraming,
@@ -20,14 +20,17 @@ use rdmap::framing::Framing;
 fn decode(x: u64) -> Framing
     ensures { λ r. ⌜ r ≡ framingIn (x ∷ []) ⌝ }
 {
-    Framing { crc: x % 2 == 1 }
+    Framing {
+        crc: x % 2 == 1,
+        held: (x / 2 % 4294967296) as u32,
+    }
 }
 
 // The word of a framing, which says the framing.
 fn encode(f: Framing) -> u64
-    ensures { λ r. ⌜ (r ≡ flagWord (f .crc)) × (framingIn (framingWords f) ≡ f) ⌝ }
+    ensures { λ r. ⌜ (r ≡ framingWord f) × (framingIn (framingWords f) ≡ f) ⌝ }
 {
-    flag(f.crc)
+    flag(f.crc) + f.held as u64 * 2
 }
 
 // Loads the framing of the stream of a domain's slot.

@@ -6,12 +6,13 @@ use lib.ListN.{length, getD}
 use lib.Dec.{eqb}
 use Rattle.wire.specs.Wire.{pick}
 use Rattle.rnic.specs.Rnic.{openedRnic, rnicOpened, rnicClosed, rnicPosted, rnicTaken, rnicReceived, rnicReceivedStore, rnicRegistered, rnicDropped, rnicLive, rnicFree}
+use Rattle.rnic.specs.Offer.{rnicOffered, rnicOfferAnswer}
 use Rattle.rnic.specs.declared.Rnic.{Rnic}
 use Rattle.rnic.specs.declared.RnicDone.{RnicDone}
 use Rattle.rnic.specs.declared.RnicClosed.{RnicClosed}
 use Rattle.rnic.specs.declared.RnicTaken.{RnicTaken}
 use Rattle.rnic.specs.declared.RnicReceived.{RnicReceived}
-use Rattle.calls.specs.Words.{refusedWords, outcomeWords, closeWords, takeWords, countWords, answerWords}
+use Rattle.calls.specs.Words.{refusedWords, outcomeWords, closeWords, takeWords, countWords, answerWords, offerWords}
 
 -- the device after a call, and the answer's words
 pub record Called : Type 0 where
@@ -54,6 +55,10 @@ calledTake b a = record { rnic = rnicTaken b (arg a 0) .rnic; words = takeWords 
 
 abbrev pub calledReceive : Rnic → ℕ → ℕ → List ℕ → Called
 calledReceive b size stream input = record { rnic = rnicReceived b size stream input .rnic; words = answerWords (rnicReceived b size stream input .answer) }
+
+-- an offer, which has no number: it is lent a second slice
+abbrev pub calledOffer : Rnic → ℕ → ℕ → List ℕ → List ℕ → Called
+calledOffer b size stream rooms input = record { rnic = rnicOffered b size stream rooms input .rnic; words = offerWords (rnicOfferAnswer b size stream rooms input) }
 
 -- ---- the numbers
 

@@ -1,16 +1,20 @@
 -- The words of an answer: word 0 says its kind, the next ones are its numbers, and those that are left are 0.
 use Prim.Native.Nat.{ℕ}
 use mathlib.Core.List.{List, [], _∷_}
+use lib.ListN.{set}
 use Rattle.memory.specs.declared.part.Outcome.{Outcome}
 use Rattle.memory.specs.declared.part.Outcome.the-variants.{Done, Refused as NotDone}
 use Rattle.rdmap.specs.declared.stream.CloseAnswer.{CloseAnswer}
 use Rattle.rdmap.specs.declared.stream.CloseAnswer.the-variants.{Closed, Refused as NotClosed}
 use Rattle.rdmap.specs.declared.stream.TakeAnswer.{TakeAnswer}
 use Rattle.rdmap.specs.declared.stream.TakeAnswer.the-variants.{Read, Refused as NotTaken}
+use Rattle.ddp.specs.declared.refusal.Refusal.{Refusal}
 use Rattle.domain.specs.declared.Event.{Event}
 use Rattle.domain.specs.declared.Event.the-variants.{NoEvent, Sent, SentInvalidating, Terminated}
 use Rattle.domain.specs.declared.Answer.{Answer}
 use Rattle.domain.specs.declared.Answer.the-variants.{Wait, Taken, Ended, Refused}
+use Rattle.holding.specs.declared.OfferAnswer.{OfferAnswer}
+use Rattle.holding.specs.declared.OfferAnswer.the-variants.{Kept, Completed, Ended as OfferEnded, Refused as OfferRefused}
 use Rattle.rnic.specs.declared.Count.{Count}
 use Rattle.rnic.specs.declared.Count.the-variants.{Counted, Refused as NotCounted}
 
@@ -48,9 +52,24 @@ eventWords total (Sent start len opcode) = words 7 total start len opcode 0
 eventWords total (SentInvalidating start len opcode stag) = words 8 total start len opcode stag
 eventWords total (Terminated layer etype code) = words 9 total layer etype code 0
 
--- 5: how many bytes to wait for; 10: a refusal of the peer's bytes
+-- 10: a refusal of the peer's bytes
+abbrev pub endedWords : Refusal → List ℕ
+endedWords r = words 10 (r .number) (r .layer) (r .etype) (r .code) 0
+
+-- 5: how many bytes to wait for
 abbrev pub answerWords : Answer → List ℕ
 answerWords (Wait n) = words 5 n 0 0 0 0
 answerWords (Taken total event) = eventWords total event
-answerWords (Ended r) = words 10 (r .number) (r .layer) (r .etype) (r .code) 0
+answerWords (Ended r) = endedWords r
 answerWords (Refused number) = refusedWords number
+
+-- word 6: how many of an offer's bytes it took
+abbrev pub tookWords : List ℕ → ℕ → List ℕ
+tookWords ws n = set ws 6 n
+
+-- 11: all of an offer's bytes are held; the other kinds are receive's
+abbrev pub offerWords : OfferAnswer → List ℕ
+offerWords (Kept n) = tookWords (words 11 0 0 0 0 0) n
+offerWords (Completed taken total event) = tookWords (eventWords total event) taken
+offerWords (OfferEnded r) = endedWords r
+offerWords (OfferRefused number) = refusedWords number

@@ -8,10 +8,15 @@ ghost use Rattle.calls.specs.Words.{
   takeWords,
   countWords,
   eventWords,
+  endedWords,
   answerWords,
+  tookWords,
+  offerWords,
 };
+use ddp::refusal::Refusal;
 use domain::Answer;
 use domain::Event;
+use holding::OfferAnswer;
 use memory::part::Outcome;
 use rdmap::stream::CloseAnswer;
 use rdmap::stream::TakeAnswer;
@@ -99,6 +104,20 @@ fn event_words(total: u64, event: Event) -> [u64; 8]
     }
 }
 
+// A refusal of the peer's bytes.
+fn ended_words(refusal: Refusal) -> [u64; 8]
+    ensures { λ r. ⌜ r ≡ endedWords refusal ⌝ }
+{
+    words(
+        10,
+        refusal.number as u64,
+        refusal.layer as u64,
+        refusal.etype as u64,
+        refusal.code as u64,
+        0,
+    )
+}
+
 // What receive answers.
 pub fn answer_words(answer: Answer) -> [u64; 8]
     ensures { λ r. ⌜ r ≡ answerWords answer ⌝ }
@@ -106,14 +125,32 @@ pub fn answer_words(answer: Answer) -> [u64; 8]
     match answer {
         Answer::Wait(n) => words(5, n as u64, 0, 0, 0, 0),
         Answer::Taken { total, event } => event_words(total as u64, event),
-        Answer::Ended(refusal) => words(
-            10,
-            refusal.number as u64,
-            refusal.layer as u64,
-            refusal.etype as u64,
-            refusal.code as u64,
-            0,
-        ),
+        Answer::Ended(refusal) => ended_words(refusal),
         Answer::Refused(number) => words(0, number as u64, 0, 0, 0, 0),
+    }
+}
+
+// The words with how many bytes of an offer were taken.
+fn took_words(w: [u64; 8], n: u64) -> [u64; 8]
+    ensures { λ r. ⌜ r ≡ tookWords w n ⌝ }
+{
+    let mut next = w;
+    next[6] = n;
+    next
+}
+
+// What an offer answers.
+pub fn offer_words(answer: OfferAnswer) -> [u64; 8]
+    ensures { λ r. ⌜ r ≡ offerWords answer ⌝ }
+{
+    match answer {
+        OfferAnswer::Kept(n) => took_words(words(11, 0, 0, 0, 0, 0), n as u64),
+        OfferAnswer::Completed {
+            taken,
+            total,
+            event,
+        } => took_words(event_words(total as u64, event), taken as u64),
+        OfferAnswer::Ended(refusal) => ended_words(refusal),
+        OfferAnswer::Refused(number) => words(0, number as u64, 0, 0, 0, 0),
     }
 }

@@ -149,7 +149,7 @@ module _ (ws : List Window) (number : ℕ) (s : Stream) (input : List ℕ) where
   headed-judges total start len (Untagged h) = applied-judges s total (partsVerdict ws number s input (UntaggedSegment total h (start + 18) (len - 18)))
   headed-judges total start len (HeaderRefused r) = tt
 
-  whole-judges : Whole input → (crc : Bool) → Judges (sizeOf input) (partsAnswered s (partsJudged ws number s input (segmentRead crc input)) .answer)
+  pub whole-judges : Whole input → (crc : Bool) → Judges (sizeOf input) (partsAnswered s (partsJudged ws number s input (segmentRead crc input)) .answer)
   unfolding segmentRead partsApplied
   whole-judges k crc =
       subst (λ (x : SegmentRead). Judges (sizeOf input) (partsAnswered s (partsJudged ws number s input x) .answer)) (ap (segmentFrom input) (sym (whole-read crc input k)))
@@ -170,7 +170,7 @@ module _ (p : Part) (ws : List Window) (number : ℕ) (s : Stream) (bytes : List
       untaggedVerdict (windowAt ws (slotNamed (stagNamed h payload))) number (s .sends .opcode) (currentBuffer (s .sends)) h payload
       (untaggedOf (queueOf s (h .qn)) (h .qn) (h .msn) (h .mo) (length payload))
 
-  same-payload : (m : ℕ) (q : List ℕ) (x : SegmentRead) → m ≤ length q → endOf x ≤ m → Same (take m q) q x
+  pub same-payload : (m : ℕ) (q : List ℕ) (x : SegmentRead) → m ≤ length q → endOf x ≤ m → Same (take m q) q x
   same-payload m q (SegmentWait n) l h = record { answered = refl; placed = refl }
   same-payload m q (SegmentRefused r) l h = record { answered = refl; placed = refl }
   same-payload m q (TaggedSegment total hd start len) l h =

@@ -1,9 +1,12 @@
 -- What a domain's receive keeps: where its part lies, and how many bytes it has. By cases on the tests of each definition.
-use Prim.Native.Nat.{ℕ, _-_, _+_}
-use mathlib.Core.Path.{_≡_, refl}
+use Prim.Native.Nat.{ℕ, _-_, _+_, _<_}
+use mathlib.Core.Path.{_≡_, refl, ap, _∙_}
 use mathlib.Core.Bool.{Bool, true, false}
 use mathlib.Core.List.{List}
-use lib.ListN.{length}
+use native.Mathlib.Omega.{arith}
+use native.Mathlib.Decide.{decLt}
+use lib.ListN.{length, getD, set}
+use lib.Seq.{getD-set-same, set-out}
 use lib.Dec.{leb}
 use borrow.Author.Tests.{leb-true}
 use Rattle.wire.specs.Wire.{pick, part}
@@ -19,11 +22,14 @@ use Rattle.rdmap.specs.declared.message.Verdict.{Verdict}
 use Rattle.rdmap.specs.declared.message.Verdict.the-variants.{Refused as VerdictRefused, Nothing, Write, SendMore, SendLast, Read, Terminate}
 use Rattle.rdmap.specs.declared.phase.Readiness.{Readiness}
 use Rattle.rdmap.specs.declared.phase.Readiness.the-variants.{Ready, NotReady}
+use Rattle.rdmap.specs.declared.framing.Framing.{Framing}
 use Rattle.rdmap.specs.declared.stream.Stream.{Stream}
-use Rattle.domain.specs.Domain.{streamAt, domainReceived, domainReceivedBytes}
+use Rattle.domain.specs.Domain.{noStream, streamAt, domainReceived, domainReceivedBytes}
 use Rattle.domain.specs.Parts.{appliedBytes, placedFrom, partsVerdict, partsPlaced, partsBytesWhen, partsReceived, partsReceivedBytes, lifted}
 use Rattle.domain.specs.declared.Domain.{Domain}
+use Rattle.domain.specs.declared.Answer.the-variants.{Refused as NotReceived}
 use Rattle.domain.specs.declared.Received.{Received}
+use Rattle.holding.proofs.Machine.{received-framing}
 
 pub received-keeps : (d : Domain) (number slot : ℕ) (input : List ℕ) → domainReceived d number slot input .domain .part ≡ d .part
 unfolding domainReceived
@@ -32,6 +38,28 @@ received-keeps d number slot input = go (leb slot 3) (lifted d slot (partsReceiv
     go : (t : Bool) (x y : Received) → x .domain .part ≡ d .part → y .domain .part ≡ d .part → pick t x y .domain .part ≡ d .part
     go true x y p q = p
     go false x y p q = q
+
+-- ---- a stream that holds nothing still does
+pub received-holds : (d : Domain) (number slot : ℕ) (input : List ℕ) → streamAt d slot .framing .held ≡ 0 → streamAt (domainReceived d number slot input .domain) slot .framing .held ≡ 0
+unfolding domainReceived
+received-holds d number slot input e = go (leb slot 3)
+  where
+    own : Stream
+    own = streamAt d slot
+
+    after : Stream
+    after = partsReceived (d .windows) number (streamAt d slot) input .stream
+
+    there : Dec (slot < length (d .streams)) → getD (set (d .streams) slot after) slot noStream .framing .held ≡ 0
+    there (yes l) =
+        ap (λ (s : Stream). s .framing .held) (getD-set-same (d .streams) slot after noStream l)
+        ∙ ap (λ (f : Framing). f .held) (received-framing (d .windows) number (streamAt d slot) input)
+        ∙ e
+    there (no l) = ap (λ (x : List Stream). getD x slot noStream .framing .held) (set-out (d .streams) slot after (omega (arith, l))) ∙ e
+
+    go : (t : Bool) → streamAt (pick t (lifted d slot (partsReceived (d .windows) number (streamAt d slot) input)) (record { answer = NotReceived 1; domain = d }) .domain) slot .framing .held ≡ 0
+    go true = there (decLt slot (length (d .streams)))
+    go false = e
 
 -- ---- as many bytes
 length-pick : (t : Bool) (x y l : List ℕ) → (t ≡ true → length x ≡ length l) → length y ≡ length l → length (pick t x y) ≡ length l

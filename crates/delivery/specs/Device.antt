@@ -36,13 +36,14 @@ rnicReceivedAll b n mem (f ∷ fs) =
 abbrev pub ownerOf : Rnic → ℕ → Domain
 ownerOf b n = domainAt b (n / 4)
 
--- a device that was opened with this store, and a stream of it
+-- a device that was opened with this store, and a stream of it that holds no bytes, or receive is refused with 16
 pub record Fits (b : Rnic) (n : ℕ) (mem : List ℕ) : Type 0 where
   pub stream : n ≤ 15
   pub four : length (b .domains) ≡ 4
   pub long : length mem ≡ b .len
   pub ordered : ownerOf b n .part .start ≤ ownerOf b n .part .end
   pub within : ownerOf b n .part .end ≤ length mem
+  pub none : streamAt (ownerOf b n) (n % 4) .framing .held ≡ 0
 
 -- ---- what is needed of the stream's domain, and its bytes of the store
 abbrev pub DeviceSendRoom : Rnic → ℕ → List ℕ → ℕ → ℕ → ℕ → ℕ → Type 0

@@ -52,13 +52,13 @@ four-domains : (w : List ℕ) → length (rnicAt w .domains) ≡ 4
 unfolding rnicAt
 four-domains w = refl
 
-four-streams : (w : List ℕ) (d : ℕ) → d < 4 → length (domainAt (rnicAt w) d .streams) ≡ 4
+pub four-streams : (w : List ℕ) (d : ℕ) → d < 4 → length (domainAt (rnicAt w) d .streams) ≡ 4
 unfolding loadedDomain
 four-streams w d hd = ap (λ (x : Domain). length (x .streams)) (domain-at w d hd)
 
 module _ (w v : List ℕ) (d : ℕ) (hd : d < 4) (x : Domain) (first : rnicAt v ≡ withDomain (rnicAt w) d x) where
   -- the entry that was put is there, and another one put over it takes its place
-  entry-put : domainAt (rnicAt v) d ≡ x
+  pub entry-put : domainAt (rnicAt v) d ≡ x
   entry-put = ap (λ (b : Rnic). domainAt b d) first ∙ getD-set-same (rnicAt w .domains) d x noDomain (omega (arith, four-domains w))
 
   pub entry-again : (f : Domain → Domain) → withDomain (rnicAt v) d (f (domainAt (rnicAt v) d)) ≡ withDomain (rnicAt w) d (f x)

@@ -1,6 +1,14 @@
 -- The device with what receive makes of a domain: `lifted` of the crate `domain`, put in the domain's entry.
 use Prim.Native.Nat.{ℕ}
-use Rattle.domain.specs.Parts.{lifted}
+use mathlib.Core.List.{List}
+use lib.ListN.{length, take}
+use Rattle.wire.specs.Wire.{pick}
+use Rattle.memory.specs.declared.part.Part.{Part}
+use Rattle.rdmap.specs.declared.stream.Stream.{Stream}
+use Rattle.domain.specs.Parts.{lifted, partsUnchanged, partsReceived, partsReceivedBytes}
+use Rattle.domain.specs.declared.Answer.the-variants.{Refused}
+use Rattle.holding.specs.Offer.{holds, offerAnswer, partsOffered, partsOfferedBytes, streamRoom}
+use Rattle.holding.specs.declared.OfferAnswer.{OfferAnswer}
 use Rattle.domain.specs.declared.parts.PartsReceived.{PartsReceived}
 use Rattle.memory.specs.Window.{windowAt}
 use Rattle.memory.specs.declared.window.Window.{Window}
@@ -8,7 +16,7 @@ use Rattle.rdmap.specs.declared.message.Verdict.{Verdict}
 use Rattle.rdmap.specs.declared.message.Verdict.the-variants.{Refused as VerdictRefused, Nothing, Write, SendMore, SendLast, Read, Terminate}
 use Rattle.rnic.specs.Rnic.{domainAt, withDomain}
 use Rattle.rnic.specs.declared.Rnic.{Rnic}
-use Rattle.block.specs.Exchange.{withWindow}
+use Rattle.block.specs.Exchange.{withWindow, streamOf}
 
 abbrev pub liftedOf : Rnic → ℕ → ℕ → PartsReceived → Rnic
 liftedOf b d j r = withDomain b d (lifted (domainAt b d) j r .domain)
@@ -29,3 +37,30 @@ OfTagged (SendMore at opcode taken) = ⊥
 OfTagged (SendLast at opcode start len inv) = ⊥
 OfTagged (Read r) = ⊥
 OfTagged (Terminate layer etype code) = ⊥
+
+-- ---- streams that hold bytes
+
+-- receive over the parts of a domain that it needs: 16 while the stream holds bytes
+unfoldable pub partsReceives : List Window → ℕ → Stream → List ℕ → PartsReceived
+partsReceives ws number s input = pick (holds s) (partsUnchanged s (Refused 16)) (partsReceived ws number s input)
+
+unfoldable pub partsReceivesBytes : Part → List Window → ℕ → Stream → List ℕ → List ℕ → List ℕ
+partsReceivesBytes p ws number s input bytes = pick (holds s) bytes (partsReceivedBytes p ws number s input bytes)
+
+-- the bytes that the stream of a domain's slot holds, in its room
+abbrev pub heldIn : Rnic → ℕ → ℕ → List ℕ → List ℕ
+heldIn b d j room = take (streamOf b d j .framing .held) room
+
+-- an offer on that stream, and the domain's bytes and the room after it
+abbrev pub offeredOf : Rnic → ℕ → ℕ → List ℕ → List ℕ → PartsReceived
+offeredOf b d j room input = partsOffered (domainAt b d .windows) d (streamOf b d j) (heldIn b d j room) input
+
+abbrev pub offeredBytesOf : Rnic → ℕ → ℕ → Part → List ℕ → List ℕ → List ℕ → List ℕ
+offeredBytesOf b d j p room input bytes = partsOfferedBytes p (domainAt b d .windows) d (streamOf b d j) (heldIn b d j room) input bytes
+
+abbrev pub offeredRoomOf : Rnic → ℕ → ℕ → List ℕ → List ℕ → List ℕ
+offeredRoomOf b d j room input = streamRoom (streamOf b d j) (heldIn b d j room) input room
+
+-- what the call answers
+abbrev pub offerAnswerOf : Rnic → ℕ → ℕ → List ℕ → List ℕ → OfferAnswer
+offerAnswerOf b d j room input = offerAnswer (length (heldIn b d j room)) (length input) (offeredOf b d j room input .answer)

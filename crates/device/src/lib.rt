@@ -6,6 +6,7 @@
 // and no public function has a `requires`.
 mod apply;
 mod judge;
+pub mod offer;
 pub mod opening;
 pub mod receive;
 mod sharing;

@@ -4,11 +4,11 @@ ghost use mathlib.Core.Path.{_≡_};
 ghost use Prim.Native.Nat.{_<_};
 ghost use lib.ListN.{length};
 ghost use Rattle.ddp.specs.Segment.{segmentRead};
-ghost use Rattle.domain.specs.Parts.{partsJudged, partsPlaced, partsAnswered, partsReceived, partsReceivedBytes};
+ghost use Rattle.domain.specs.Parts.{partsJudged, partsPlaced, partsAnswered};
 ghost use Rattle.rnic.specs.Rnic.{domainAt, receivedOwned, receivedOwnedStore, rnicReceived, rnicReceivedStore};
 ghost use Rattle.block.specs.Device.{rnicAt};
 ghost use Rattle.block.specs.Exchange.{streamOf};
-ghost use Rattle.device.specs.Lifted.{liftedOf};
+ghost use Rattle.device.specs.Lifted.{liftedOf, partsReceives, partsReceivesBytes};
 use crate::apply::apply;
 use crate::apply::apply_tagged;
 use crate::apply::end;
@@ -29,7 +29,7 @@ use rdmap::phase::Readiness;
 
 // Takes the first FPDU of bytes for the open stream of a domain's slot, with the CRC on or off; the
 // domain's bytes are lent, which start at the start of its part.
-fn receive_first(
+pub(crate) fn receive_first(
     words: &mut [u64; 933],
     domain: usize,
     slot: usize,
@@ -88,7 +88,8 @@ fn receive_first(
     }
 }
 
-// Takes the first FPDU of bytes for the stream of a domain's slot; the domain's bytes are lent.
+// Takes the first FPDU of bytes for the stream of a domain's slot; the domain's bytes are lent. 16 while the
+// stream holds bytes.
 fn receive_slot(
     words: &mut [u64; 933],
     domain: usize,
@@ -98,7 +99,7 @@ fn receive_slot(
     bytes: &[u8],
 ) -> Answer
     requires { ⌜ (domain < 4) × (slot < 4) ⌝ }
-    ensures { λ r. ⌜ (r ≡ partsReceived (domainAt (rnicAt (now (words .entry))) domain .windows) domain (streamOf (rnicAt (now (words .entry))) domain slot) (now (bytes .entry)) .answer) × (rnicAt (now (words .exit)) ≡ liftedOf (rnicAt (now (words .entry))) domain slot (partsReceived (domainAt (rnicAt (now (words .entry))) domain .windows) domain (streamOf (rnicAt (now (words .entry))) domain slot) (now (bytes .entry)))) × (now (store .exit) ≡ partsReceivedBytes part (domainAt (rnicAt (now (words .entry))) domain .windows) domain (streamOf (rnicAt (now (words .entry))) domain slot) (now (bytes .entry)) (now (store .entry))) ⌝ }
+    ensures { λ r. ⌜ (r ≡ partsReceives (domainAt (rnicAt (now (words .entry))) domain .windows) domain (streamOf (rnicAt (now (words .entry))) domain slot) (now (bytes .entry)) .answer) × (rnicAt (now (words .exit)) ≡ liftedOf (rnicAt (now (words .entry))) domain slot (partsReceives (domainAt (rnicAt (now (words .entry))) domain .windows) domain (streamOf (rnicAt (now (words .entry))) domain slot) (now (bytes .entry)))) × (now (store .exit) ≡ partsReceivesBytes part (domainAt (rnicAt (now (words .entry))) domain .windows) domain (streamOf (rnicAt (now (words .entry))) domain slot) (now (bytes .entry)) (now (store .entry))) ⌝ }
 {
     let phase = load_phase(words, domain, slot);
     match phase.ready() {
@@ -108,6 +109,9 @@ fn receive_slot(
         }
     }
     let framing = load_framing(words, domain, slot);
+    if 0 < framing.held {
+        return Answer::Refused(16);
+    }
     receive_first(words, domain, slot, part, framing.crc, store, bytes)
 }
 

@@ -1,6 +1,6 @@
 -- What refusal 19 buys, over runs: in every state that a run reaches no two writers of a domain share a byte (`never-shared`); what a
 -- call changes in a part is a byte of the one writer that it fills (`changed-is-filled`), and so of no other (`placed-apart`).
-use Prim.Native.Nat.{ℕ, _+_, _-_, _%_, _≤_, _<_}
+use Prim.Native.Nat.{ℕ, _+_, _-_, _/_, _%_, _≤_, _<_}
 use mathlib.Core.Logic.{_≢_}
 use mathlib.Core.Path.{_≡_, refl, sym, ap, ap₂, subst, _∙_}
 use mathlib.Core.Bool.{Bool, true, false}
@@ -9,7 +9,7 @@ use native.Mathlib.Omega.{arith}
 use native.Mathlib.Decide.{decLt, ℕ-discrete as decEq}
 use lib.ListN.{length, getD, take, drop, List·getD-append, List·getD-eq-default}
 use lib.Seq.{getD-drop, getD-take, getD-append-add, length-take-le}
-use lib.Dec.{eqb}
+use lib.Dec.{leb, eqb}
 use borrow.Author.Tests.{le-leb, lt-leb}
 use borrow.Rule.Slice.PartMut.{midOf, mid-len}
 use Rattle.wire.specs.Wire.{pick, both, part, put}
@@ -35,64 +35,49 @@ use Rattle.rdmap.specs.declared.phase.Readiness.the-variants.{Ready, NotReady}
 use Rattle.rdmap.specs.declared.stream.Stream.{Stream}
 use Rattle.domain.specs.Domain.{noStream, streamAt, domainReceivedBytes}
 use Rattle.domain.specs.Parts.{taggedVerdict, partsVerdict, partsBytesWhen, partsReceivedBytes}
-use Rattle.domain.specs.declared.Answer.the-variants.{Refused}
 use Rattle.domain.specs.declared.Domain.{Domain}
 use Rattle.domain.proofs.Inside.{inside}
 use Rattle.rnic.specs.Rnic.{domainAt, bytesOf}
 use Rattle.rnic.specs.declared.Rnic.{Rnic}
-use Rattle.isolation.specs.Book.{Call, Answer, View, Observation, Opening, ofStream, ownerIn, bookReceive, book, partStart, partEnd}
-use Rattle.isolation.specs.Book.Answer.{received}
-use Rattle.isolation.specs.Book.Call.{openStream, closeStream, register, dropWindow, post, receive, takeRead, live, free}
+use Rattle.rnic.specs.Offer.{roomsBytes, heldBytes}
+use Rattle.holding.specs.Offer.{holdsAt, domainReceivesBytes, domainOfferedBytes}
+use Rattle.isolation.specs.Book.{Call, Answer, View, Observation, Opening, ofStream, ownerIn, bookReceive, bookOffer, book, partStart, partEnd}
+use Rattle.isolation.specs.Book.Call.{openStream, closeStream, register, dropWindow, post, receive, offer, takeRead, live, free}
 use Rattle.isolation.specs.Writers.{Writer, bufferAt, Writes, startOf, lenOf, Has, Apart, target, receiver, Fills}
 use Rattle.isolation.specs.Writers.Writer.{window, buffer}
 use Rattle.isolation.proofs.Calls.{World, Step, Opened, view}
 use Rattle.isolation.proofs.Runs.{Interface, Run}
-use Rattle.isolation.proofs.Runs.Run.{stop, next}
-use Rattle.isolation.proofs.Induction.{made-fit, run-fit}
-use Rattle.isolation.proofs.Kept.{opened-keeps, closed-keeps, posted-keeps, taken-keeps, registered-keeps, dropped-keeps, received-keeps}
-use Rattle.isolation.proofs.Openings.{opened-fit, opened-view}
-use Rattle.isolation.proofs.Reachable.{Sound, AllSound, Placing, Lands, ruled, payloadOf, step-sound, opening-sound, reached-sound, write-lands, untagged-lands, judged-lands, placed-where-judged}
+use Rattle.holding.proofs.Held.{offered-bytes}
+use Rattle.isolation.proofs.Induction.{run-fit}
+use Rattle.isolation.proofs.Invariants.{reached}
+use Rattle.isolation.proofs.Kept.{picked, opened-keeps, closed-keeps, posted-keeps, taken-keeps, registered-keeps, dropped-keeps, received-keeps, offered-part}
+use Rattle.isolation.proofs.Offers.{held-is}
+use Rattle.isolation.proofs.Openings.{opened-fit}
+use Rattle.isolation.proofs.Reachable.{Sound, Placing, Lands, ruled, payloadOf, new-sound, book-sound, reached-sound, write-lands, untagged-lands, judged-lands, placed-where-judged}
 use Rattle.isolation.proofs.Steps.{own, alien}
 use Rattle.isolation.proofs.WellFormed.{Fit}
-use Rattle.isolation.proofs.Writers.{shares-no-byte, opened-apart, closed-apart, taken-apart, dropped-apart, received-apart, registered-apart, posted-apart, new-apart}
+use Rattle.isolation.proofs.Writers.{shares-no-byte, opened-apart, closed-apart, taken-apart, dropped-apart, received-apart, offered-apart, registered-apart, posted-apart, new-apart}
 
 -- ---- over a run
-seen-apart : (t : Bool) (x y : Observation Answer) → Apart (x .after .dom) → Apart (y .after .dom) → Apart (pick t x y .after .dom)
-seen-apart true x y f g = f
-seen-apart false x y f g = g
-
 book-apart : (A : ℕ) (v : View) → Sound (v .dom) → Apart (v .dom) → (c : Call) → Apart (book A v c .after .dom)
 book-apart A v k p (openStream n crc) = opened-apart (v .dom) k p (n % 4) crc
 book-apart A v k p (closeStream n) = closed-apart (v .dom) k p (n % 4)
 book-apart A v k p (register w key base len place rights) = registered-apart (v .dom) k p (w % 16) key base len place rights
 book-apart A v k p (dropWindow w) = dropped-apart (v .dom) k p (w % 16)
 book-apart A v k p (post n start len) = posted-apart (v .dom) k p (n % 4) start len
-book-apart A v k p (receive n input size) = seen-apart (eqb size (v .size)) (bookReceive A v n input) _ (received-apart (v .dom) k p A (n % 4) input) p
+book-apart A v k p (receive n input size) =
+    picked (λ (o : Observation Answer). Apart (o .after .dom)) (eqb size (v .size)) (bookReceive A v n input) _ (λ e. received-apart (v .dom) k p A (n % 4) input) (λ e. p)
+book-apart A v k p (offer n input size many) =
+    picked (λ (o : Observation Answer). Apart (o .after .dom)) (both (eqb size (v .size)) (eqb many roomsBytes)) (bookOffer A v n input) _
+    (λ e. offered-apart (v .dom) k p A (n % 4) (v .held (n % 4)) input) (λ e. p)
 book-apart A v k p (takeRead n) = taken-apart (v .dom) k p (n % 4)
 book-apart A v k p (live d) = p
 book-apart A v k p (free d) = p
 
--- each domain of a world
-abbrev pub AllApart : World → Type 0
-AllApart w = (A : ℕ) → A < 4 → Apart (domainAt (w .dev) A)
-
--- a call
-pub step-apart : (w : World) (c : Call) (a : Answer) (w₁ : World) → Fit w → AllSound w → AllApart w → Step w c a w₁ → AllApart w₁
-step-apart w c a w₁ f k p s A hA = go (decEq (ownerIn (w .dev) c) A)
-  where
-    go : Dec (ownerIn (w .dev) c ≡ A) → Apart (domainAt (w₁ .dev) A)
-    go (yes o) = subst Apart (sym (ap (λ (x : Observation Answer). x .after .dom) (own A hA w c a w₁ f o s))) (book-apart A (view A w) (k A hA) (p A hA) c)
-    go (no o) = subst Apart (sym (ap (λ (x : View). x .dom) (alien A hA w c a w₁ f o s))) (p A hA)
-
--- a list of calls
-pub run-apart : {I : Interface} {w w₁ : World} {cs : List (I .Request)} → Fit w → AllSound w → AllApart w → Run I w cs w₁ → AllApart w₁
-run-apart f k p stop = p
-run-apart {I = I} f k p (next {w = w} {c = c} x w₁ s r) =
-    let n = I .is-step w c x w₁ s in
-    run-apart (made-fit I f s) (step-sound w (I .call c) (n .0) w₁ f k (n .1)) (step-apart w (I .call c) (n .0) w₁ f k p (n .1)) r
-
-opening-apart : (o : Opening) (mem : List ℕ) (w : World) → Opened o mem w → AllApart w
-opening-apart o mem w s A hA = subst Apart (sym (ap (λ (x : View). x .dom) (opened-view o mem w s A hA))) (new-apart (partStart A o) (partEnd A o))
+-- the writers of a domain lie in its part, and apart
+record Placed (v : View) : Type 0 where
+  sound : Sound (v .dom)
+  apart : Apart (v .dom)
 
 -- no byte of a domain is in two of its writers, and each lies in the domain's part
 pub record NoneShared (d : Domain) : Type 0 where
@@ -102,14 +87,17 @@ pub record NoneShared (d : Domain) : Type 0 where
 
 -- in every world that a run from an opening reaches, no two write windows, no two waiting buffers and no such pair of a domain share a byte
 pub never-shared :
-    (o : Opening) (mem : List ℕ) {I : Interface} {w w₁ : World} {cs : List (I .Request)} → Opened o mem w → Run I w cs w₁ →
+    (o : Opening) (mem rooms : List ℕ) {I : Interface} {w w₁ : World} {cs : List (I .Request)} → Opened o mem rooms w → Run I w cs w₁ →
     (A : ℕ) → A < 4 → NoneShared (domainAt (w₁ .dev) A)
-never-shared o mem {I = I} {w = w} {w₁ = w₁} s r A hA =
-    let p : Apart (domainAt (w₁ .dev) A) = run-apart (opened-fit o mem w s) (opening-sound o mem w s) (opening-apart o mem w s) r A hA in
+never-shared o mem rooms s r A hA =
+    let p =
+    reached Placed A (λ v c k. record { sound = book-sound A v (k .sound) c; apart = book-apart A v (k .sound) (k .apart) c }) o mem rooms s r hA
+    (record { sound = new-sound (partStart A o) (partEnd A o); apart = new-apart (partStart A o) (partEnd A o) })
+    in
     record {
-      sound = reached-sound o mem s r A hA;
-      apart = p;
-      no-byte = λ a b n ha hb. shares-no-byte _ _ _ _ (p a b n ha hb);
+      sound = p .sound;
+      apart = p .apart;
+      no-byte = λ a b n ha hb. shares-no-byte _ _ _ _ (p .apart a b n ha hb);
     }
 
 -- ---- what it buys: where a payload goes
@@ -257,19 +245,34 @@ byte-in p mem x l h =
     ∙ ap (λ (i : ℕ). getD mem i 0) (let e : p .start + (x - p .start) ≡ x = omega (arith, l) in e)
 
 -- a byte of domain A that a call may change is one of the writer that the call fills
-pub record Filled (b : Rnic) (c : Call) (A x : ℕ) : Type 0 where
+pub record Filled (b : Rnic) (rooms : List ℕ) (c : Call) (A x : ℕ) : Type 0 where
   pub writer : Writer
-  pub fills : Fills b c A writer
+  pub fills : Fills b rooms c A writer
   pub writes : Writes (domainAt b A) writer
   pub has : Has (domainAt b A) writer x
 
+-- a stream of a domain A is one of its four
+stream-owner : (n A : ℕ) → A < 4 → ofStream n ≡ A → n / 4 ≡ A
+stream-owner n A hA = go (leb n 15)
+  where
+    go : (t : Bool) → pick t (n / 4) 4 ≡ A → n / 4 ≡ A
+    go true e = e
+    go false e = absurd (omega (arith, hA, e))
+
+-- a stream that holds bytes receives none
+unless-held :
+    (d : Domain) (number slot : ℕ) (input bytes : List ℕ) (i : ℕ) →
+    getD (domainReceivedBytes d number slot input bytes) i 0 ≡ getD bytes i 0 → getD (domainReceivesBytes d number slot input bytes) i 0 ≡ getD bytes i 0
+unfolding domainReceivesBytes
+unless-held d number slot input bytes i e = picked (λ (l : List ℕ). getD l i 0 ≡ getD bytes i 0) (holdsAt d slot) bytes _ (λ q. refl) (λ q. e)
+
 -- in every world that a run from an opening reaches, each byte of a part that the next call changes is one of the writer that the call fills
 pub changed-is-filled :
-    (o : Opening) (mem : List ℕ) {I : Interface} {w w₁ : World} {cs : List (I .Request)} → Opened o mem w → Run I w cs w₁ →
+    (o : Opening) (mem rooms : List ℕ) {I : Interface} {w w₁ : World} {cs : List (I .Request)} → Opened o mem rooms w → Run I w cs w₁ →
     (c : I .Request) (y : I .Reply) (w₂ : World) → I .Made w₁ c y w₂ →
     (A : ℕ) → A < 4 → (x : ℕ) → domainAt (w₁ .dev) A .part .start ≤ x → x < domainAt (w₁ .dev) A .part .end →
-    (getD (w₂ .mem) x 0 ≡ getD (w₁ .mem) x 0 → ⊥) → Filled (w₁ .dev) (I .call c) A x
-changed-is-filled o mem {I = I} {w = w} {w₁ = w₁} z r c y w₂ m A hA x low high changed = seen .1 (λ e. changed (same e))
+    (getD (w₂ .mem) x 0 ≡ getD (w₁ .mem) x 0 → ⊥) → Filled (w₁ .dev) (w₁ .rooms) (I .call c) A x
+changed-is-filled o mem rooms {I = I} {w = w} {w₁ = w₁} z r c y w₂ m A hA x low high changed = seen .1 (λ e. changed (same e))
   where
     d : Domain
     d = domainAt (w₁ .dev) A
@@ -278,40 +281,54 @@ changed-is-filled o mem {I = I} {w = w} {w₁ = w₁} z r c y w₂ m A hA x low 
     d₂ = domainAt (w₂ .dev) A
 
     f : Fit w₁
-    f = run-fit I (opened-fit o mem w z) r
+    f = run-fit I (opened-fit o mem rooms w z) r
 
     Seen : Call → View → Type 0
     Seen k v =
         (v .dom .part ≡ d .part) ×
-        ((getD (v .bytes) (x - d .part .start) 0 ≡ getD (bytesOf d (w₁ .mem)) (x - d .part .start) 0 → ⊥) → Filled (w₁ .dev) k A x)
+        ((getD (v .bytes) (x - d .part .start) 0 ≡ getD (bytesOf d (w₁ .mem)) (x - d .part .start) 0 → ⊥) → Filled (w₁ .dev) (w₁ .rooms) k A x)
 
     -- a call that changes no byte
     still : (k : Call) (v : View) → v .dom .part ≡ d .part → v .bytes ≡ bytesOf d (w₁ .mem) → Seen k v
     still k v p e = (p, λ q. absurd (q (ap (λ (l : List ℕ). getD l (x - d .part .start) 0) e)))
 
-    lent :
-        (n : ℕ) (input : List ℕ) (size : ℕ) → ofStream n ≡ A → (t : Bool) →
-        Seen (receive n input size) (pick t (bookReceive A (view A w₁) n input) (record { answer = received (Refused 2); after = view A w₁ }) .after)
-    lent n input size e false = still (receive n input size) (view A w₁) refl refl
-    lent n input size e true = (
-      received-keeps d A (n % 4) input,
+    -- the writer that some bytes on a stream of A's are for
+    filled : (k : Call) (slot : ℕ) (p : List ℕ) → Fills (w₁ .dev) (w₁ .rooms) k A (receiver d slot p) →
+        (getD (domainReceivedBytes d A slot p (bytesOf d (w₁ .mem))) (x - d .part .start) 0 ≡ getD (bytesOf d (w₁ .mem)) (x - d .part .start) 0 → ⊥) → Filled (w₁ .dev) (w₁ .rooms) k A x
+    filled k slot p e q =
+        let b = changed-in-receiver d (reached-sound o mem rooms z r A hA) A slot p (bytesOf d (w₁ .mem)) (mid-len _ _ (w₁ .mem) (f .within A hA)) (x - d .part .start) q in
+        let s : d .part .start + (x - d .part .start) ≡ x = omega (arith, low) in
+        record { writer = receiver d slot p; fills = e; writes = b .0; has = subst (Has d (receiver d slot p)) s (b .1) }
+
+    lent : (n : ℕ) (input : List ℕ) (size : ℕ) → ofStream n ≡ A → Seen (receive n input size) (bookReceive A (view A w₁) n input .after)
+    lent n input size e = (received-keeps d A (n % 4) input .part, λ q. filled (receive n input size) (n % 4) input (e, refl) (λ same. q (unless-held d A (n % 4) input (bytesOf d (w₁ .mem)) (x - d .part .start) same)))
+
+    both-lent : (n : ℕ) (input : List ℕ) (size many : ℕ) → ofStream n ≡ A → Seen (offer n input size many) (bookOffer A (view A w₁) n input .after)
+    both-lent n input size many e = (
+      offered-part d A (n % 4) (view A w₁ .held (n % 4)) input,
       λ q.
-          let b = changed-in-receiver d (reached-sound o mem z r A hA) A (n % 4) input (bytesOf d (w₁ .mem)) (mid-len _ _ (w₁ .mem) (f .within A hA)) (x - d .part .start) q in
-          let s : d .part .start + (x - d .part .start) ≡ x = omega (arith, low) in
-          record { writer = receiver d (n % 4) input; fills = (e, refl); writes = b .0; has = subst (Has d (receiver d (n % 4) input)) s (b .1) },
+          let h = heldBytes (w₁ .dev) n (w₁ .rooms) in
+          let held : view A w₁ .held (n % 4) ≡ h = subst (λ (B : ℕ). view B w₁ .held (n % 4) ≡ h) (stream-owner n A hA e) (held-is w₁ n) in
+          filled (offer n input size many) (n % 4) (h ++ input) (e, refl)
+          (λ same. q (ap (λ (l : List ℕ). getD l (x - d .part .start) 0) (ap (λ (l : List ℕ). domainOfferedBytes d A (n % 4) l input (bytesOf d (w₁ .mem))) held ∙ offered-bytes d A (n % 4) h input (bytesOf d (w₁ .mem))) ∙ same)),
     )
 
     quiet : (k : Call) → book A (view A w₁) k .after .dom .part ≡ d .part → book A (view A w₁) k .after .bytes ≡ bytesOf d (w₁ .mem) → Seen k (book A (view A w₁) k .after)
     quiet k p e = still k (book A (view A w₁) k .after) p e
 
     booked : (k : Call) → ownerIn (w₁ .dev) k ≡ A → Seen k (book A (view A w₁) k .after)
-    booked (openStream n crc) e = quiet (openStream n crc) (opened-keeps d (n % 4) crc) refl
-    booked (closeStream n) e = quiet (closeStream n) (closed-keeps d (n % 4)) refl
-    booked (register i key base len place rights) e = quiet (register i key base len place rights) (registered-keeps d (i % 16) key base len place rights) refl
-    booked (dropWindow i) e = quiet (dropWindow i) (dropped-keeps d (i % 16)) refl
-    booked (post n start len) e = quiet (post n start len) (posted-keeps d (n % 4) start len) refl
-    booked (receive n input size) e = lent n input size e (eqb size (w₁ .dev .len))
-    booked (takeRead n) e = quiet (takeRead n) (taken-keeps d (n % 4)) refl
+    booked (openStream n crc) e = quiet (openStream n crc) (opened-keeps d (n % 4) crc .part) refl
+    booked (closeStream n) e = quiet (closeStream n) (closed-keeps d (n % 4) .part) refl
+    booked (register i key base len place rights) e = quiet (register i key base len place rights) (registered-keeps d (i % 16) key base len place rights .part) refl
+    booked (dropWindow i) e = quiet (dropWindow i) (dropped-keeps d (i % 16) .part) refl
+    booked (post n start len) e = quiet (post n start len) (posted-keeps d (n % 4) start len .part) refl
+    booked (receive n input size) e =
+        picked (λ (o : Observation Answer). Seen (receive n input size) (o .after)) (eqb size (w₁ .dev .len)) (bookReceive A (view A w₁) n input) _
+        (λ q. lent n input size e) (λ q. still (receive n input size) (view A w₁) refl refl)
+    booked (offer n input size many) e =
+        picked (λ (o : Observation Answer). Seen (offer n input size many) (o .after)) (both (eqb size (w₁ .dev .len)) (eqb many roomsBytes)) (bookOffer A (view A w₁) n input) _
+        (λ q. both-lent n input size many e) (λ q. still (offer n input size many) (view A w₁) refl refl)
+    booked (takeRead n) e = quiet (takeRead n) (taken-keeps d (n % 4) .part) refl
     booked (live i) e = quiet (live i) refl refl
     booked (free i) e = quiet (free i) refl refl
 
@@ -333,21 +350,21 @@ changed-is-filled o mem {I = I} {w = w} {w₁ = w₁} z r c y w₂ m A hA x low 
 
 -- so the next call changes no byte of any write window, and of any waiting buffer, of any domain, but for the one that it fills
 pub placed-apart :
-    (o : Opening) (mem : List ℕ) {I : Interface} {w w₁ : World} {cs : List (I .Request)} → Opened o mem w → Run I w cs w₁ →
+    (o : Opening) (mem rooms : List ℕ) {I : Interface} {w w₁ : World} {cs : List (I .Request)} → Opened o mem rooms w → Run I w cs w₁ →
     (c : I .Request) (y : I .Reply) (w₂ : World) → I .Made w₁ c y w₂ →
-    (A : ℕ) → A < 4 → (a : Writer) → Writes (domainAt (w₁ .dev) A) a → (Fills (w₁ .dev) (I .call c) A a → ⊥) →
+    (A : ℕ) → A < 4 → (a : Writer) → Writes (domainAt (w₁ .dev) A) a → (Fills (w₁ .dev) (w₁ .rooms) (I .call c) A a → ⊥) →
     (x : ℕ) → Has (domainAt (w₁ .dev) A) a x → getD (w₂ .mem) x 0 ≡ getD (w₁ .mem) x 0
-placed-apart o mem {I = I} {w₁ = w₁} z r c y w₂ m A hA a h other x l = go (decEq (getD (w₂ .mem) x 0) (getD (w₁ .mem) x 0))
+placed-apart o mem rooms {I = I} {w₁ = w₁} z r c y w₂ m A hA a h other x l = go (decEq (getD (w₂ .mem) x 0) (getD (w₁ .mem) x 0))
   where
     d : Domain
     d = domainAt (w₁ .dev) A
 
     all : NoneShared d
-    all = never-shared o mem z r A hA
+    all = never-shared o mem rooms z r A hA
 
     go : Dec (getD (w₂ .mem) x 0 ≡ getD (w₁ .mem) x 0) → getD (w₂ .mem) x 0 ≡ getD (w₁ .mem) x 0
     go (yes e) = e
     go (no e) =
         let b = writer-lies d (all .sound) a h in
-        let t = changed-is-filled o mem z r c y w₂ m A hA x (omega (arith, b .0, l .0)) (omega (arith, b .1, l .1)) e in
-        absurd (all .no-byte a (t .writer) (λ q. other (subst (Fills (w₁ .dev) (I .call c) A) (sym q) (t .fills))) h (t .writes) x l (t .has))
+        let t = changed-is-filled o mem rooms z r c y w₂ m A hA x (omega (arith, b .0, l .0)) (omega (arith, b .1, l .1)) e in
+        absurd (all .no-byte a (t .writer) (λ q. other (subst (Fills (w₁ .dev) (w₁ .rooms) (I .call c) A) (sym q) (t .fills))) h (t .writes) x l (t .has))

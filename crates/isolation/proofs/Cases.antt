@@ -1,5 +1,5 @@
--- The twelve worked cases that the paper marks to be proved, a slice of two FPDUs, empty reads, and refusal 19, as one table: what each gives,
--- what it must give, and one test that antt computes over the whole table.
+-- The twelve worked cases that the paper marks to be proved, a slice of two FPDUs, empty reads, refusal 19 and offers, as one table: what each
+-- gives, what it must give, and one test that antt computes over the whole table.
 -- Assumes nothing.
 use mathlib.Core.Path.{_≡_, refl}
 use mathlib.Core.Bool.{Bool, true, false}
@@ -7,7 +7,7 @@ use mathlib.Core.List.{List, [], _∷_, _++_}
 use Prim.Native.Nat.{ℕ, zero, suc, _+_, _-_, _<_}
 use native.Mathlib.Omega.{arith}
 use native.Mathlib.Nat.{le-of-suc-le-suc, not-suc-le-zero}
-use lib.ListN.{length, getD, take, replicate}
+use lib.ListN.{length, getD, take, drop, replicate}
 use Rattle.wire.specs.Wire.{both, same, put, be16, be32, be64}
 use Rattle.wire.proofs.Laws.{both-true, same-eq}
 use Rattle.mpa.specs.Fpdu.{totalOf, fpduRead, fpduReadOf}
@@ -30,6 +30,11 @@ use Rattle.domain.specs.Sharing.{shares, windowShares, windowsShare, buffersSha
 use Rattle.domain.specs.declared.Answer.{Answer}
 use Rattle.domain.specs.declared.Answer.the-variants.{Wait, Taken, Ended, Refused}
 use Rattle.domain.specs.declared.Event.the-variants.{NoEvent, Sent, SentInvalidating, Terminated}
+use Rattle.holding.specs.Pending.{neededOf, isShort, copied, roomAfter}
+use Rattle.holding.specs.Offer.{domainReceives, domainReceivesBytes, partsOffered, partsOfferedBytes, domainOffered, domainOfferedBytes}
+use Rattle.holding.specs.declared.OfferAnswer.{OfferAnswer}
+use Rattle.holding.specs.declared.OfferAnswer.the-variants.{Kept, Completed, Ended as OfferEnded, Refused as OfferRefused}
+use Rattle.rnic.specs.Offer.{roomsBytes, offeredOwned, offeredOwnedStore, offeredOwnedRooms, rnicOffered, rnicOfferAnswer, rnicOfferedStore, rnicOfferedRooms}
 use Rattle.rnic.specs.Rnic.{openedRnic, rnicOpened, rnicClosed, rnicPosted, rnicRegistered, rnicDropped, receivedOwned, receivedOwnedStore, rnicReceived, rnicReceivedStore}
 use Rattle.rnic.specs.declared.Rnic.{Rnic}
 
@@ -100,6 +105,27 @@ waits = rnicOpened (rnicPosted (device 4) 4 1100 5 .rnic) 5 false .rnic
 abbrev buffers : ℕ → Rnic
 buffers zero = device 4
 buffers (suc n) = rnicPosted (buffers n) 4 (1100 + n) 1 .rnic
+
+-- what an offer answers: Kept n; Completed with how many of its bytes it took, and then as receive; a refusal as receive's
+abbrev offerCode : OfferAnswer → List ℕ
+offerCode (Kept n) = 7 ∷ n ∷ []
+offerCode (Completed taken total event) = taken ∷ code (Taken total event)
+offerCode (OfferEnded r) = code (Ended r)
+offerCode (OfferRefused n) = code (Refused n)
+
+-- rooms in which every byte is 9
+abbrev rooms : List ℕ
+rooms = replicate roomsBytes 9
+
+abbrev offers : Rnic → ℕ → List ℕ → List ℕ → List ℕ
+offers b stream second input = offerCode (rnicOfferAnswer b 4096 stream second input)
+
+-- the first n bytes of the paper's frame are offered on stream 4: the device, and the rooms
+abbrev begun : ℕ → Rnic
+begun n = rnicOffered (device 4) 4096 4 rooms (take n paper) .rnic
+
+abbrev begunRooms : ℕ → List ℕ
+begunRooms n = rnicOfferedRooms (device 4) 4096 4 rooms (take n paper)
 
 record Check : Type 0 where
   got : List ℕ
@@ -177,6 +203,26 @@ log =
     ∷ gives (posts (buffers 8) 4 1100 1) (10 ∷ [])
     -- another domain's entries are not looked at: what they have is not in its part
     ∷ gives (posts (rnicOpened waits 0 false .rnic) 0 1104 5) (9 ∷ [])
+    -- the paper's frame offered whole, and with more behind it: 24 bytes are taken; offered in two pieces: Kept 10, and 14 are taken
+    ∷ gives (offers (device 4) 4 rooms paper) (24 ∷ 1 ∷ 24 ∷ [])
+    ∷ gives (offers (device 4) 4 rooms (paper ++ paper)) (24 ∷ 1 ∷ 24 ∷ [])
+    ∷ gives (offers (device 4) 4 rooms (take 10 paper)) (7 ∷ 10 ∷ [])
+    ∷ gives (offers (begun 10) 4 (begunRooms 10) (drop 10 paper)) (14 ∷ 1 ∷ 24 ∷ [])
+    ∷ gives (rnicOfferedStore (begun 10) 4 (begunRooms 10) (drop 10 paper) store) (put store 1024 beef)
+    -- an offer of no bytes: Kept 0
+    ∷ gives (offers (begun 10) 4 (begunRooms 10) []) (7 ∷ 0 ∷ [])
+    -- receive is refused with 16 while its own stream holds bytes, and not on another stream, nor once close has emptied them
+    ∷ gives (answer (begun 10) 4 paper) (6 ∷ 16 ∷ [])
+    ∷ gives (answer (rnicOpened (begun 10) 5 false .rnic) 5 paper) (1 ∷ 24 ∷ [])
+    ∷ gives (answer (rnicOpened (rnicClosed (begun 10) 4 .rnic) 4 false .rnic) 4 paper) (1 ∷ 24 ∷ [])
+    -- a ULPDU length of 2,049: 20; after it 5
+    ∷ gives (offers (device 4) 4 rooms (0x08 ∷ 0x01 ∷ [])) (5 ∷ 20 ∷ 1 ∷ 0 ∷ 0x00 ∷ [])
+    ∷ gives (offers (rnicOffered (device 4) 4096 4 rooms (0x08 ∷ 0x01 ∷ []) .rnic) 4 rooms paper) (6 ∷ 5 ∷ [])
+    -- another length of either slice: 2; a stream that is not open: 3; no stream's number: 1
+    ∷ gives (offerCode (rnicOfferAnswer (device 4) 4095 4 rooms paper)) (6 ∷ 2 ∷ [])
+    ∷ gives (offers (device 4) 4 (9 ∷ rooms) paper) (6 ∷ 2 ∷ [])
+    ∷ gives (offers (device 4) 5 rooms paper) (6 ∷ 3 ∷ [])
+    ∷ gives (offers (device 4) 16 rooms paper) (6 ∷ 1 ∷ [])
     -- MSN 4,294,967,295 is followed by 0
     ∷ gives (nextMsn 4294967295 ∷ []) (0 ∷ [])
     -- Request, C set, data AB, whole
@@ -190,7 +236,7 @@ all (x ∷ xs) = both (same (x .got) (x .want)) (all xs)
 
 -- the test passes over the whole table
 log-holds : all log ≡ true
-unfolding fpduRead fpduReadOf startupOf inPart inRange windowFits registeredIn registered droppedIn dropped named foundIn wraps spanned posted poppedOf taggedFields untaggedFields taggedRead untaggedRead headerRead segmentRead taggedOf untaggedIn untaggedOf fits placed sendVerdict readVerdict terminateVerdict messageVerdict queueOf opened closed postedOn shares windowShares windowsShare buffersShare streamsShare domainShares lastly domainOpened domainClosed domainPosted domainRegistered domainDropped partsApplied placedFrom appliedBytes partsReceived partsReceivedBytes domainReceived domainReceivedBytes openedRnic rnicOpened rnicClosed rnicPosted rnicRegistered rnicDropped receivedOwned receivedOwnedStore rnicReceived rnicReceivedStore
+unfolding fpduRead fpduReadOf startupOf inPart inRange windowFits registeredIn registered droppedIn dropped named foundIn wraps spanned posted poppedOf taggedFields untaggedFields taggedRead untaggedRead headerRead segmentRead taggedOf untaggedIn untaggedOf fits placed sendVerdict readVerdict terminateVerdict messageVerdict queueOf opened closed postedOn shares windowShares windowsShare buffersShare streamsShare domainShares lastly domainOpened domainClosed domainPosted domainRegistered domainDropped partsApplied placedFrom appliedBytes partsReceived partsReceivedBytes domainReceived domainReceivedBytes openedRnic rnicOpened rnicClosed rnicPosted rnicRegistered rnicDropped receivedOwned receivedOwnedStore rnicReceived rnicReceivedStore domainReceives domainReceivesBytes neededOf isShort copied roomAfter partsOffered partsOfferedBytes domainOffered domainOfferedBytes offeredOwned offeredOwnedStore offeredOwnedRooms rnicOffered rnicOfferedStore rnicOfferedRooms
 log-holds = refl
 
 -- so each case gives what it must

@@ -5,15 +5,17 @@ use mathlib.Core.Logic.{_≢_}
 use mathlib.Core.Path.{_≡_, refl, sym, ap, _∙_}
 use mathlib.Core.List.{List, map}
 use denote.Ref.{now}
+use Rattle.holding.specs.declared.OfferAnswer.{OfferAnswer}
+use Rattle.rnic.specs.Offer.{roomsBytes}
 use Rattle.isolation.specs.Book.{Answer, View, Opening, bookTrace, bookView, firstBytes, firstView}
 use Rattle.isolation.specs.Book.Call.{receive}
 use Rattle.isolation.specs.Number.{Numbered}
-use Rattle.isolation.proofs.Calls.{World, Step, NumberStep, view}
+use Rattle.isolation.proofs.Calls.{World, Step, OfferStep, NumberStep, view}
 use Rattle.isolation.proofs.Runs.{Interface, Run, OpenedRun, functions, callsOf, trace, views, callsUpTo}
 use Rattle.isolation.proofs.Induction.{trace-is, views-are, end-is}
 use Rattle.isolation.proofs.Numbers.{numbers, number-other}
 use Rattle.isolation.proofs.Openings.{opened-fit, opened-view}
-use Rattle.isolation.proofs.Steps.{receive-other}
+use Rattle.isolation.proofs.Steps.{receive-other, offer-other}
 
 -- a run is as A's book says, v being A's first view
 pub record ByBook (A : ℕ) (v : View) {I : Interface} {w w₁ : World} {cs : List (I .Request)} (r : Run I w cs w₁) : Type 0 where
@@ -33,21 +35,21 @@ pub record Isolated (A : ℕ) (v : View) {I : Interface} {w w₁ u u₁ : World}
   pub second : ByBook A v q
 
 -- Demand 3 of an interface: any two runs from the same opening that agree on the bytes of A's part and on A's calls are the same for
--- A, and are as A's book says, which is fed the opening, those bytes and those calls alone
+-- A, and are as A's book says, which is fed the opening, those bytes and those calls alone. They may differ in all of the second slice
 abbrev pub Isolation : Interface → Type 0
 Isolation I =
     (A : ℕ) → A < 4 →
-    (o : Opening) (mem mem′ : List ℕ) (r : OpenedRun I o mem) (q : OpenedRun I o mem′) →
+    (o : Opening) (mem mem′ rooms rooms′ : List ℕ) (r : OpenedRun I o mem rooms) (q : OpenedRun I o mem′ rooms′) →
     firstBytes A o mem ≡ firstBytes A o mem′ → callsOf A (r .run) ≡ callsOf A (q .run) →
     Isolated A (firstView A o (firstBytes A o mem)) (r .run) (q .run)
 
 -- ---- the proof
 by-book :
-    (I : Interface) (A : ℕ) → A < 4 → (o : Opening) (mem : List ℕ) (r : OpenedRun I o mem) (v : View) → firstView A o (firstBytes A o mem) ≡ v →
+    (I : Interface) (A : ℕ) → A < 4 → (o : Opening) (mem rooms : List ℕ) (r : OpenedRun I o mem rooms) (v : View) → firstView A o (firstBytes A o mem) ≡ v →
     ByBook A v (r .run)
-by-book I A hA o mem r v e =
-    let f = opened-fit o mem (r .start) (r .opened) in
-    let g : view A (r .start) ≡ v = opened-view o mem (r .start) (r .opened) A hA ∙ e in
+by-book I A hA o mem rooms r v e =
+    let f = opened-fit o mem rooms (r .start) (r .opened) in
+    let g : view A (r .start) ≡ v = opened-view o mem rooms (r .start) (r .opened) A hA ∙ e in
     record {
       own = trace-is I A hA f (r .run) ∙ ap (λ (z : View). bookTrace (I .reply) A z (callsOf A (r .run))) g;
       every = views-are I A hA f (r .run) ∙ ap (λ (z : View). map (bookView A z) (callsUpTo A (r .run))) g;
@@ -55,19 +57,19 @@ by-book I A hA o mem r v e =
     }
 
 pub isolated : (I : Interface) → Isolation I
-isolated I A hA o mem mem′ r q b m =
+isolated I A hA o mem mem′ rooms rooms′ r q b m =
     let v = firstView A o (firstBytes A o mem) in
-    let x : ByBook A v (r .run) = by-book I A hA o mem r v refl in
-    let y : ByBook A v (q .run) = by-book I A hA o mem′ q v (ap (firstView A o) (sym b)) in
+    let x : ByBook A v (r .run) = by-book I A hA o mem rooms r v refl in
+    let y : ByBook A v (q .run) = by-book I A hA o mem′ rooms′ q v (ap (firstView A o) (sym b)) in
     record { same = x .own ∙ ap (bookTrace (I .reply) A v) m ∙ sym (y .own); first = x; second = y }
 
 -- ---- the theorem
 
--- for the device's own functions, which `rnic` has
+-- for the device's own functions, which `rnic` has, and offers
 pub two-nights : Isolation functions
 two-nights = isolated functions
 
--- for calls by number, with answers in words, by `call` of the crate `calls`
+-- for calls by number, by `call` of the crate `calls`, and offers, with answers in words
 pub two-nights-by-number : Isolation numbers
 two-nights-by-number = isolated numbers
 
@@ -81,3 +83,11 @@ pub other-slice-kept-by-number :
     (w : World) (c : Numbered) (words : List ℕ) (w₁ : World) (s : NumberStep w c words w₁) → c .size ≢ w .dev .len →
     s .lent .after ≡ now (s .lent .slice)
 other-slice-kept-by-number = number-other
+
+-- and so of an offer that is lent another length of either slice, in whatever form its answer is given: it is refused, both slices stay,
+-- and the world
+pub other-slice-kept-by-offer :
+    {R : Type 0} (form : OfferAnswer → R) (w : World) (n : ℕ) (input : List ℕ) (k m : ℕ) (x : R) (w₁ : World) (s : OfferStep form w n input k m x w₁) →
+    ((k ≡ w .dev .len) × (m ≡ roomsBytes) → ⊥) →
+    (s .store .after ≡ now (s .store .slice)) × (s .second .after ≡ now (s .second .slice)) × (w₁ ≡ w)
+other-slice-kept-by-offer = offer-other

@@ -8,12 +8,18 @@ use lib.ListN.{length}
 use lib.Dec.{leb, eqb}
 use Rattle.wire.specs.Wire.{pick}
 use Rattle.memory.specs.Window.{liveCount, lowestFree}
-use Rattle.domain.specs.Domain.{domainOpened, domainClosed, domainPosted, domainTaken, domainRegistered, domainDropped, domainReceived, domainReceivedBytes}
+use Rattle.domain.specs.Domain.{domainOpened, domainClosed, domainPosted, domainTaken, domainRegistered, domainDropped}
 use Rattle.domain.specs.declared.Answer.the-variants.{Refused}
 use Rattle.memory.specs.Part.{partFits}
+use Rattle.holding.specs.Offer.{domainReceives, domainReceivesBytes, streamRoom, domainOffered, domainOfferedBytes}
 use Rattle.rnic.specs.Rnic.{domainAt, withDomain, bytesOf, withBytes, rnicOpened, rnicClosed, rnicPosted, rnicTaken, rnicRegistered, rnicDropped, rnicReceived, rnicReceivedStore, receivedOwned, receivedOwnedStore, rnicLive, rnicFree}
+use Rattle.rnic.specs.Offer.{roomOf, withRoom, streamNumbered, heldBytes, offerAsked, offeredOwned, offeredOwnedStore, offeredOwnedRooms, rnicOffered, rnicOfferedStore, rnicOfferedRooms}
 use Rattle.rnic.specs.declared.Rnic.{Rnic}
 use Rattle.rnic.specs.declared.Count.the-variants.{Counted}
+
+either-same : (t : Bool) (l : List ℕ) → pick t l l ≡ l
+either-same true l = refl
+either-same false l = refl
 
 module _ (b : Rnic) (n : ℕ) where
   pub opened-in : (crc : Bool) → leb n 15 ≡ true → rnicOpened b n crc ≡ record { outcome = domainOpened (domainAt b (n / 4)) (n % 4) crc .outcome; rnic = withDomain b (n / 4) (domainOpened (domainAt b (n / 4)) (n % 4) crc .domain) }
@@ -77,7 +83,7 @@ module _ (b : Rnic) (n : ℕ) where
   module _ (input : List ℕ) where
     pub received-in :
         (k : ℕ) → leb n 15 ≡ true → eqb k (b .len) ≡ true → partFits (domainAt b (n / 4) .part) k ≡ true →
-        rnicReceived b k n input ≡ record { answer = domainReceived (domainAt b (n / 4)) (n / 4) (n % 4) input .answer; rnic = withDomain b (n / 4) (domainReceived (domainAt b (n / 4)) (n / 4) (n % 4) input .domain) }
+        rnicReceived b k n input ≡ record { answer = domainReceives (domainAt b (n / 4)) (n / 4) (n % 4) input .answer; rnic = withDomain b (n / 4) (domainReceives (domainAt b (n / 4)) (n / 4) (n % 4) input .domain) }
     unfolding rnicReceived receivedOwned
     received-in k e₁ e₂ e₃ = simp (e₁, e₂, e₃)
 
@@ -92,19 +98,64 @@ module _ (b : Rnic) (n : ℕ) where
 
     pub store-in :
         (mem : List ℕ) → leb n 15 ≡ true → eqb (length mem) (b .len) ≡ true → partFits (domainAt b (n / 4) .part) (length mem) ≡ true →
-        rnicReceivedStore b n input mem ≡ withBytes (domainAt b (n / 4)) mem (domainReceivedBytes (domainAt b (n / 4)) (n / 4) (n % 4) input (bytesOf (domainAt b (n / 4)) mem))
+        rnicReceivedStore b n input mem ≡ withBytes (domainAt b (n / 4)) mem (domainReceivesBytes (domainAt b (n / 4)) (n / 4) (n % 4) input (bytesOf (domainAt b (n / 4)) mem))
     unfolding rnicReceivedStore receivedOwnedStore
     store-in mem e₁ e₂ e₃ = simp (e₁, e₂, e₃)
 
     -- and it stays
     pub store-other : (mem : List ℕ) → eqb (length mem) (b .len) ≡ false → rnicReceivedStore b n input mem ≡ mem
     unfolding rnicReceivedStore
-    store-other mem e = simp e (go (leb n 15))
-      where
-        go : (t : Bool) → pick t mem mem ≡ mem
-        go true = refl
-        go false = refl
+    store-other mem e = simp e (either-same (leb n 15) mem)
 
     pub store-out : (mem : List ℕ) → leb n 15 ≡ false → rnicReceivedStore b n input mem ≡ mem
     unfolding rnicReceivedStore
     store-out mem e = simp e
+
+    -- ---- an offer, lent a slice of length k as the store and these rooms as the second
+    module _ (k : ℕ) (rooms : List ℕ) where
+      pub offered-in :
+          leb n 15 ≡ true → offerAsked b k (length rooms) ≡ true → partFits (domainAt b (n / 4) .part) k ≡ true →
+          rnicOffered b k n rooms input
+          ≡ record {
+            answer = domainOffered (domainAt b (n / 4)) (n / 4) (n % 4) (heldBytes b n rooms) input .answer;
+            rnic = withDomain b (n / 4) (domainOffered (domainAt b (n / 4)) (n / 4) (n % 4) (heldBytes b n rooms) input .domain);
+          }
+      unfolding rnicOffered offeredOwned
+      offered-in e₁ e₂ e₃ = simp (e₁, e₂, e₃)
+
+      pub offered-other : leb n 15 ≡ true → offerAsked b k (length rooms) ≡ false → rnicOffered b k n rooms input ≡ record { answer = Refused 2; rnic = b }
+      unfolding rnicOffered
+      offered-other e₁ e₂ = simp (e₁, e₂)
+
+      pub offered-out : leb n 15 ≡ false → rnicOffered b k n rooms input .rnic ≡ b
+      unfolding rnicOffered
+      offered-out e = simp e
+
+      pub rooms-in :
+          leb n 15 ≡ true → offerAsked b k (length rooms) ≡ true → partFits (domainAt b (n / 4) .part) k ≡ true →
+          rnicOfferedRooms b k n rooms input ≡ withRoom rooms n (streamRoom (streamNumbered b n) (heldBytes b n rooms) input (roomOf rooms n))
+      unfolding rnicOfferedRooms offeredOwnedRooms
+      rooms-in e₁ e₂ e₃ = simp (e₁, e₂, e₃)
+
+      pub rooms-other : offerAsked b k (length rooms) ≡ false → rnicOfferedRooms b k n rooms input ≡ rooms
+      unfolding rnicOfferedRooms
+      rooms-other e = simp e (either-same (leb n 15) rooms)
+
+      pub rooms-out : leb n 15 ≡ false → rnicOfferedRooms b k n rooms input ≡ rooms
+      unfolding rnicOfferedRooms
+      rooms-out e = simp e
+
+    module _ (rooms mem : List ℕ) where
+      pub offered-store-in :
+          leb n 15 ≡ true → offerAsked b (length mem) (length rooms) ≡ true → partFits (domainAt b (n / 4) .part) (length mem) ≡ true →
+          rnicOfferedStore b n rooms input mem ≡ withBytes (domainAt b (n / 4)) mem (domainOfferedBytes (domainAt b (n / 4)) (n / 4) (n % 4) (heldBytes b n rooms) input (bytesOf (domainAt b (n / 4)) mem))
+      unfolding rnicOfferedStore offeredOwnedStore
+      offered-store-in e₁ e₂ e₃ = simp (e₁, e₂, e₃)
+
+      pub offered-store-other : offerAsked b (length mem) (length rooms) ≡ false → rnicOfferedStore b n rooms input mem ≡ mem
+      unfolding rnicOfferedStore
+      offered-store-other e = simp e (either-same (leb n 15) mem)
+
+      pub offered-store-out : leb n 15 ≡ false → rnicOfferedStore b n rooms input mem ≡ mem
+      unfolding rnicOfferedStore
+      offered-store-out e = simp e

@@ -1,4 +1,5 @@
--- Calls by number, by the contract of `call` of the crate `calls`: each is a step of the device's own function, its answer in words.
+-- Calls by number, by the contract of `call` of the crate `calls`, and offers, by their definition: each is a step of the device, its answer
+-- in words.
 use Prim.Native.Nat.{ℕ}
 use mathlib.Core.Logic.{_≢_}
 use mathlib.Core.Path.{_≡_, refl, sym, ap, subst, _∙_}
@@ -12,15 +13,18 @@ use contract.Lifetimes.{Lfts}
 use Rattle.wire.specs.Wire.{pick}
 use Rattle.rnic.specs.Rnic.{rnicOpened, rnicClosed, rnicPosted, rnicTaken, rnicRegistered, rnicDropped, rnicReceived, rnicReceivedStore, rnicLive, rnicFree}
 use Rattle.rnic.specs.declared.Rnic.{Rnic}
+use Rattle.rnic.specs.Offer.{rnicOfferAnswer}
+use Rattle.calls.specs.Words.{offerWords}
 use Rattle.calls.specs.Call.{Called, arg, crcOn, calledOpen, calledReceive, called, calledStore}
 use Rattle.isolation.specs.Book.{Call, Answer}
-use Rattle.isolation.specs.Book.Call.{receive}
-use Rattle.isolation.specs.Book.Answer.{received}
-use Rattle.isolation.specs.Number.{Numbered, callOf, replyWords}
-use Rattle.isolation.proofs.Calls.{World, PlainStep, Step, NumberStep, storeAfter}
+use Rattle.isolation.specs.Book.Call.{receive, offer}
+use Rattle.isolation.specs.Book.Answer.{received, offered}
+use Rattle.isolation.specs.Number.{Numbered, Request, callOf, requested, replyWords}
+use Rattle.isolation.specs.Number.Request.{byNumber, offering}
+use Rattle.isolation.proofs.Calls.{World, PlainStep, OfferStep, Step, NumberStep, storeAfter}
 use Rattle.isolation.proofs.Lifted.{store-other}
 use Rattle.isolation.proofs.Runs.{Interface}
-use Rattle.isolation.proofs.WellFormed.{world-path}
+use Rattle.isolation.proofs.WellFormed.{world-path, memory-left}
 
 module _ (w : World) (c : Numbered) (words : List ℕ) (w₁ : World) (s : NumberStep w c words w₁) where
   -- the device, the call's nine numbers, and the slice lent
@@ -52,11 +56,7 @@ module _ (w : World) (c : Numbered) (words : List ℕ) (w₁ : World) (s : Numbe
 
   -- a call other than receive leaves the slice, and so the store
   store-left : eqb (c .number) 9 ≡ false → storeAfter w (c .size) (s .lent) ≡ w .mem
-  store-left e = go (eqb (c .size) (w .dev .len)) refl
-    where
-      go : (t : Bool) → eqb (c .size) (w .dev .len) ≡ t → pick t (s .lent .after) (w .mem) ≡ w .mem
-      go true q = number-slice false e ∙ s .lent .store (eqb-true (c .size) (w .dev .len) q)
-      go false q = refl
+  store-left e = memory-left (s .lent) (number-slice false e)
 
   -- a number i that is not receive's
   other : (i : ℕ) → eqb (c .number) i ≡ true → eqb i 9 ≡ false → eqb (c .number) 9 ≡ false
@@ -79,7 +79,7 @@ module _ (w : World) (c : Numbered) (words : List ℕ) (w₁ : World) (s : Numbe
       {X R : Type 0} {Post : Lfts 0 → X → R → X → Type 0} {x : X} {answer : R → Answer} {rnic : R → Rnic} (z : R) → Post tt x z x →
       eqb (c .number) 9 ≡ false → s .result ≡ rnic z → words ≡ replyWords (answer z) →
       (a : Answer) × PlainStep Post x answer rnic w a w₁ × (words ≡ replyWords a)
-  plain {answer = answer} z p e g h = (answer z, record { result = z; contract = p; answered = refl; world = s .world ∙ world-path g (store-left e) }, h)
+  plain {answer = answer} z p e g h = (answer z, record { result = z; contract = p; answered = refl; world = s .world ∙ world-path g (store-left e) refl }, h)
 
   -- receive, by the same slice and the same bytes
   receiving : eqb (c .number) 9 ≡ true → Matches (receive (n 0) (c .input) (c .size)) (calledReceive b (c .size) (n 0) (c .input))
@@ -96,7 +96,7 @@ module _ (w : World) (c : Numbered) (words : List ℕ) (w₁ : World) (s : Numbe
         number-slice true e ∙ sym (λ i. rnicReceivedStore b (n 0) (s .given i) l),
       );
       answered = refl;
-      world = s .world ∙ world-path g refl;
+      world = s .world ∙ world-path g refl refl;
     },
     h,
   )
@@ -128,13 +128,34 @@ module _ (w : World) (c : Numbered) (words : List ℕ) (w₁ : World) (s : Numbe
       go true = store-other b (n 0) (c .input) l (ap (λ (m : ℕ). eqb m (w .dev .len)) (s .lent .long) ∙ ne-eqb (c .size) (w .dev .len) ne)
       go false = refl
 
--- the device's calls by their numbers
+-- ---- an offer
+
+-- it is the step, its answer's words given
+pub offer-step :
+    (w : World) (n : ℕ) (input : List ℕ) (k m : ℕ) (words : List ℕ) (w₁ : World) → OfferStep offerWords w n input k m words w₁ →
+    (a : Answer) × Step w (offer n input k m) a w₁ × (words ≡ replyWords a)
+offer-step w n input k m words w₁ s = (
+  offered (rnicOfferAnswer (w .dev) k n (now (s .second .slice)) input),
+  record { store = s .store; second = s .second; answered = refl; stored = s .stored; kept = s .kept; world = s .world },
+  s .answered,
+)
+
+-- ---- a request, with the words of its answer
+abbrev pub Worded : World → Request → List ℕ → World → Type 0
+Worded w (byNumber c) = NumberStep w c
+Worded w (offering n input k m) = OfferStep offerWords w n input k m
+
+pub worded-step : (w : World) (c : Request) (words : List ℕ) (w₁ : World) → Worded w c words w₁ → (a : Answer) × Step w (requested c) a w₁ × (words ≡ replyWords a)
+worded-step w (byNumber c) words w₁ s = number-step w c words w₁ s
+worded-step w (offering n input k m) words w₁ s = offer-step w n input k m words w₁ s
+
+-- the device's calls by their numbers, and offers
 abbrev pub numbers : Interface
 numbers = record {
-  Request = Numbered;
+  Request = Request;
   Reply = List ℕ;
-  call = callOf;
+  call = requested;
   reply = replyWords;
-  Made = NumberStep;
-  is-step = number-step;
+  Made = Worded;
+  is-step = worded-step;
 }

@@ -1,22 +1,25 @@
 -- The opening, accepted or refused: it gives a well-formed world, in which each domain's view is the first of its book.
-use Prim.Native.Nat.{ℕ, zero, suc, _-_, _≤_, _<_}
+use Prim.Native.Nat.{ℕ, zero, suc, _+_, _-_, _*_, _≤_, _<_}
 use mathlib.Core.Path.{_≡_, refl, sym, ap, subst, _∙_}
 use mathlib.Core.Bool.{Bool, true, false}
 use mathlib.Core.List.{List, [], _∷_}
 use native.Mathlib.Omega.{arith}
-use lib.ListN.{length, getD}
+use lib.ListN.{length, getD, take, replicate}
 use lib.Dec.{leb}
 use borrow.Author.Tests.{leb-true}
 use borrow.Rule.Slice.PartMut.{midOf}
 use Rattle.wire.specs.Wire.{pick, both}
 use Rattle.wire.proofs.Laws.{both-true}
 use Rattle.memory.specs.declared.part.Outcome.the-variants.{Done, Refused as NotDone}
-use Rattle.domain.specs.Domain.{newDomain}
+use Rattle.rdmap.specs.Stream.{closedStream}
+use Rattle.domain.specs.Domain.{noStream, newDomain}
+use Rattle.domain.specs.declared.Domain.{Domain}
 use Rattle.rnic.specs.Rnic.{domainAt, bytesOf, inOrder, newRnic, emptyRnic, openedRnic}
+use Rattle.rnic.specs.Offer.{roomsBytes, roomOf}
 use Rattle.rnic.specs.declared.Rnic.{Rnic}
 use Rattle.rnic.specs.declared.RnicDone.{RnicDone}
 use Rattle.isolation.specs.Book.{View, Opening, opens, firstBytes, firstView}
-use Rattle.isolation.proofs.Calls.{World, Opened, view, accepted}
+use Rattle.isolation.proofs.Calls.{World, Opened, heldIn, view, accepted}
 use Rattle.isolation.proofs.WellFormed.{Fit, view-path, world-path}
 
 -- what the contract's definition says of an opening that is accepted, and of one that is not
@@ -110,21 +113,22 @@ module _ (o : Opening) where
     new-apart (suc (suc (suc i))) (suc (suc (suc zero))) h hj = absurd (omega arith)
     new-apart i (suc (suc (suc (suc j)))) h hj = absurd (omega arith)
 
-    new-fit : (mem : List ℕ) → length mem ≡ o .len → Fit (record { dev = newBy o; mem = mem })
-    new-fit mem e = record {
+    new-fit : (mem rooms : List ℕ) → length mem ≡ o .len → length rooms ≡ roomsBytes → Fit (record { dev = newBy o; mem = mem; rooms = rooms })
+    new-fit mem rooms e r = record {
       four = refl;
       long = e;
       apart = new-apart;
       ordered = new-ordered;
       within = λ i h. rw e (new-within i h);
+      roomy = r;
     }
 
 -- a refused opening is one of length 0 with empty parts
 abbrev noOpening : Opening
 noOpening = record { len = 0; s₀ = 0; e₀ = 0; s₁ = 0; e₁ = 0; s₂ = 0; e₂ = 0; s₃ = 0; e₃ = 0 }
 
-empty-fit : Fit (record { dev = emptyRnic; mem = [] })
-empty-fit = new-fit noOpening (record {
+empty-fit : (rooms : List ℕ) → length rooms ≡ roomsBytes → Fit (record { dev = emptyRnic; mem = []; rooms = rooms })
+empty-fit rooms = new-fit noOpening (record {
   p₀ = omega arith;
   q₀ = omega arith;
   p₁ = omega arith;
@@ -133,31 +137,44 @@ empty-fit = new-fit noOpening (record {
   q₂ = omega arith;
   p₃ = omega arith;
   q₃ = omega arith;
-}) [] refl
+}) [] rooms refl
 
-module _ (o : Opening) (mem : List ℕ) (w : World) (s : Opened o mem w) where
+-- no stream of a new domain holds a byte
+pub none-held : (n slot : ℕ) → getD (replicate n closedStream) slot noStream .framing .held ≡ 0
+none-held zero slot = refl
+none-held (suc n) zero = refl
+none-held (suc n) (suc slot) = none-held n slot
+
+new-holds : (A start end : ℕ) (rooms : List ℕ) (slot : ℕ) → heldIn A (newDomain start end) rooms slot ≡ []
+new-holds A start end rooms slot = ap (λ (n : ℕ). pick (leb slot 3) (take n (roomOf rooms (4 * A + slot))) []) (none-held 4 slot) ∙ go (leb slot 3)
+  where
+    go : (t : Bool) → _≡_ {A = List ℕ} (pick t [] []) []
+    go true = refl
+    go false = refl
+
+module _ (o : Opening) (mem rooms : List ℕ) (w : World) (s : Opened o mem rooms w) where
   opened-long : opens o ≡ true → length mem ≡ o .len
   opened-long e = s .2 (ap (λ x. accepted (x .outcome)) (s .1 ∙ open-in o e))
 
-  opened-world : opens o ≡ true → w ≡ record { dev = newBy o; mem = mem }
+  opened-world : opens o ≡ true → w ≡ record { dev = newBy o; mem = mem; rooms = rooms }
   opened-world e =
       let r = s .1 ∙ open-in o e in
-      s .3 ∙ world-path (ap (λ x. x .rnic) r) (ap (λ x. pick (accepted (x .outcome)) mem []) r)
+      s .4 ∙ world-path (ap (λ x. x .rnic) r) (ap (λ x. pick (accepted (x .outcome)) mem []) r) refl
 
-  refused-world : opens o ≡ false → w ≡ record { dev = emptyRnic; mem = [] }
+  refused-world : opens o ≡ false → w ≡ record { dev = emptyRnic; mem = []; rooms = rooms }
   refused-world e =
       let r = open-out o e in
-      s .3 ∙ world-path (ap (λ x. x .rnic) (s .1) ∙ r .1) (ap (λ x. pick (accepted (x .outcome)) mem []) (s .1) ∙ ap (λ (t : Bool). pick t mem []) (r .0))
+      s .4 ∙ world-path (ap (λ x. x .rnic) (s .1) ∙ r .1) (ap (λ x. pick (accepted (x .outcome)) mem []) (s .1) ∙ ap (λ (t : Bool). pick t mem []) (r .0)) refl
 
   -- an opening, accepted or refused, gives a well-formed device
   pub opened-fit : Fit w
   opened-fit = go (opens o) refl
     where
       go : (t : Bool) → opens o ≡ t → Fit w
-      go true e = subst Fit (sym (opened-world e)) (new-fit o (in-order o e) mem (opened-long e))
-      go false e = subst Fit (sym (refused-world e)) empty-fit
+      go true e = subst Fit (sym (opened-world e)) (new-fit o (in-order o e) mem rooms (opened-long e) (s .3))
+      go false e = subst Fit (sym (refused-world e)) (empty-fit rooms (s .3))
 
-  -- and A's first view is its book's: the new domain with its part, and the bytes of its part
+  -- and A's first view is its book's: the new domain with its part, the bytes of its part, and nothing held
   pub opened-view : (A : ℕ) → A < 4 → view A w ≡ firstView A o (firstBytes A o mem)
   opened-view A h = go (opens o) refl
     where
@@ -181,8 +198,12 @@ module _ (o : Opening) (mem : List ℕ) (w : World) (s : Opened o mem w) where
             size = pick t (o .len) 0;
             dom = newDomain (pick t (getD ss A 0) 0) (pick t (getD es A 0) 0);
             bytes = midOf (pick t (getD ss A 0) 0) (pick t (getD es A 0) 0 - pick t (getD ss A 0) 0) mem;
+            held = λ slot. [];
           }
 
+      held : (x : Domain) (start end : ℕ) → x ≡ newDomain start end → (slot : ℕ) → heldIn A x rooms slot ≡ []
+      held x start end e slot = ap (λ (y : Domain). heldIn A y rooms slot) e ∙ new-holds A start end rooms slot
+
       go : (t : Bool) → opens o ≡ t → view A w ≡ first t (o .s₀ ∷ o .s₁ ∷ o .s₂ ∷ o .s₃ ∷ []) (o .e₀ ∷ o .e₁ ∷ o .e₂ ∷ o .e₃ ∷ [])
-      go true e = ap (view A) (opened-world e) ∙ view-path refl (new A h) (ap (λ x. bytesOf x mem) (new A h))
-      go false e = ap (view A) (refused-world e) ∙ view-path refl (none A h) (ap (λ x. bytesOf x []) (none A h))
+      go true e = ap (view A) (opened-world e) ∙ view-path refl (new A h) (ap (λ x. bytesOf x mem) (new A h)) (held _ _ _ (new A h))
+      go false e = ap (view A) (refused-world e) ∙ view-path refl (none A h) (ap (λ x. bytesOf x []) (none A h)) (held _ _ _ (none A h))

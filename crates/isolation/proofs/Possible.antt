@@ -8,12 +8,17 @@ use lib.ListN.{length, replicate, length-replicate}
 use denote.Ref.{RefT}
 use contract.Lifetimes.{Lfts}
 use Rattle.rnic.specs.Rnic.{openedRnic, rnicOpened, rnicClosed, rnicPosted, rnicTaken, rnicRegistered, rnicDropped, rnicReceived, rnicReceivedStore, rnicLive, rnicFree}
+use Rattle.rnic.specs.Offer.{roomsBytes, rnicOfferedStore, rnicOfferedRooms}
 use Rattle.rnic.specs.declared.Rnic.{Rnic}
+use Rattle.holding.specs.declared.OfferAnswer.{OfferAnswer}
+use Rattle.calls.specs.Words.{offerWords}
 use Rattle.calls.specs.Call.{called, calledStore}
 use Rattle.isolation.specs.Book.{Call, Answer, Opening}
-use Rattle.isolation.specs.Book.Call.{openStream, closeStream, register, dropWindow, post, receive, takeRead, live, free}
-use Rattle.isolation.specs.Number.{Numbered}
-use Rattle.isolation.proofs.Calls.{World, PlainStep, Lent, Opened}
+use Rattle.isolation.specs.Book.Call.{openStream, closeStream, register, dropWindow, post, receive, offer, takeRead, live, free}
+use Rattle.isolation.specs.Book.Answer.{offered}
+use Rattle.isolation.specs.Number.{Request}
+use Rattle.isolation.specs.Number.Request.{byNumber, offering}
+use Rattle.isolation.proofs.Calls.{World, PlainStep, OfferStep, Lent, Opened}
 use Rattle.isolation.proofs.Runs.{Interface, Run, OpenedRun, functions}
 use Rattle.isolation.proofs.Runs.Run.{stop, next}
 use Rattle.isolation.proofs.Induction.{made-fit}
@@ -31,27 +36,44 @@ pub record Possible (I : Interface) (w : World) (c : I .Request) : Type 0 where
 abbrev reference : List ℕ → RefT (List ℕ)
 reference l = record { ptr = (0, 0); name = 0; now = l }
 
--- a slice to lend: the store where it is as long as that, and zeros otherwise
-record Slice (w : World) (k : ℕ) : Type 0 where
+-- a slice to lend: the memory where it is as long as that, and zeros otherwise
+record Slice (mem : List ℕ) (len size : ℕ) : Type 0 where
   bytes : List ℕ
-  long : length bytes ≡ k
-  store : k ≡ w .dev .len → bytes ≡ w .mem
+  long : length bytes ≡ size
+  whole : size ≡ len → bytes ≡ mem
 
-slice : (w : World) → length (w .mem) ≡ w .dev .len → (k : ℕ) → Slice w k
-slice w e k = go (decEq k (w .dev .len))
+slice : (mem : List ℕ) (len : ℕ) → length mem ≡ len → (size : ℕ) → Slice mem len size
+slice mem len e size = go (decEq size len)
   where
-    go : Dec (k ≡ w .dev .len) → Slice w k
-    go (yes h) = record { bytes = w .mem; long = e ∙ sym h; store = λ q. refl }
-    go (no h) = record { bytes = replicate k 0; long = length-replicate k 0; store = λ q. absurd (h q) }
+    go : Dec (size ≡ len) → Slice mem len size
+    go (yes h) = record { bytes = mem; long = e ∙ sym h; whole = λ q. refl }
+    go (no h) = record { bytes = replicate size 0; long = length-replicate size 0; whole = λ q. absurd (h q) }
 
 -- that slice lent, holding l afterwards
-abbrev lend : {w : World} {k : ℕ} → Slice w k → List ℕ → Lent w k
-lend x l = record { slice = reference (x .bytes); after = l; long = x .long; store = x .store }
+abbrev lend : {mem : List ℕ} {len size : ℕ} → Slice mem len size → List ℕ → Lent mem len size
+lend x l = record { slice = reference (x .bytes); after = l; long = x .long; whole = x .whole }
+
+-- an offer, whose answer is given in any form
+offers : {R : Type 0} (form : OfferAnswer → R) (w : World) → Fit w → (n : ℕ) (input : List ℕ) (k m : ℕ) → (x : R) × (w₁ : World) × OfferStep form w n input k m x w₁
+offers form w f n input k m =
+    let x = slice (w .mem) (w .dev .len) (f .long) k in
+    let y = slice (w .rooms) roomsBytes (f .roomy) m in (
+      _,
+      _,
+      record {
+        store = lend x (rnicOfferedStore (w .dev) n (y .bytes) input (x .bytes));
+        second = lend y (rnicOfferedRooms (w .dev) k n (y .bytes) input);
+        answered = refl;
+        stored = refl;
+        kept = refl;
+        world = refl;
+      },
+    )
 
 -- ---- a call by the device's own function
 returned :
     {X R : Type 0} {Post : Lfts 0 → X → R → X → Type 0} {x : X} {answer : R → Answer} {rnic : R → Rnic} {w : World} (z : R) → Post tt x z x →
-    PlainStep Post x answer rnic w (answer z) (record { dev = rnic z; mem = w .mem })
+    PlainStep Post x answer rnic w (answer z) (record { dev = rnic z; mem = w .mem; rooms = w .rooms })
 returned z p = record { result = z; contract = p; answered = refl; world = refl }
 
 pub by-function : (w : World) → Fit w → (c : Call) → Possible functions w c
@@ -64,7 +86,7 @@ by-function w f (takeRead n) = record { reply = _; after = _; made = returned (r
 by-function w f (live d) = record { reply = _; after = _; made = returned (rnicLive (w .dev) d) refl }
 by-function w f (free d) = record { reply = _; after = _; made = returned (rnicFree (w .dev) d) refl }
 by-function w f (receive n input k) =
-    let x = slice w (f .long) k in
+    let x = slice (w .mem) (w .dev .len) (f .long) k in
     record {
       reply = _;
       after = _;
@@ -79,11 +101,13 @@ by-function w f (receive n input k) =
         world = refl;
       };
     }
+by-function w f (offer n input k m) = let z = offers offered w f n input k m in record { reply = z .0; after = z .1; made = z .2 }
 
--- ---- a call by its number
-pub by-number : (w : World) → Fit w → (c : Numbered) → Possible numbers w c
-by-number w f c =
-    let x = slice w (f .long) (c .size) in
+-- ---- a call by its number, and an offer
+pub by-number : (w : World) → Fit w → (c : Request) → Possible numbers w c
+by-number w f (offering n input k m) = let z = offers offerWords w f n input k m in record { reply = z .0; after = z .1; made = z .2 }
+by-number w f (byNumber c) =
+    let x = slice (w .mem) (w .dev .len) (f .long) (c .size) in
     record {
       reply = called (w .dev) (length (x .bytes)) (c .number) (c .args) (c .input) .words;
       after = _;
@@ -110,15 +134,15 @@ module _ (I : Interface) (possible : (w : World) → Fit w → (c : I .Request) 
       let r = run-of (m .after) (made-fit I f (m .made)) cs in
       (r .0, next (m .reply) (m .after) (m .made) (r .1))
 
-  pub opened-run : (o : Opening) (mem : List ℕ) → length mem ≡ o .len → (cs : List (I .Request)) → (r : OpenedRun I o mem) × (r .calls ≡ cs)
-  opened-run o mem e cs =
-      let s : Opened o mem _ = (openedRnic (o .len) (o .s₀) (o .e₀) (o .s₁) (o .e₁) (o .s₂) (o .e₂) (o .s₃) (o .e₃), refl, (λ a. e), refl) in
-      let r = run-of _ (opened-fit o mem _ s) cs in
+  pub opened-run : (o : Opening) (mem rooms : List ℕ) → length mem ≡ o .len → length rooms ≡ roomsBytes → (cs : List (I .Request)) → (r : OpenedRun I o mem rooms) × (r .calls ≡ cs)
+  opened-run o mem rooms e l cs =
+      let s : Opened o mem rooms _ = (openedRnic (o .len) (o .s₀) (o .e₀) (o .s₁) (o .e₁) (o .s₂) (o .e₂) (o .s₃) (o .e₃), refl, (λ a. e), l, refl) in
+      let r = run-of _ (opened-fit o mem rooms _ s) cs in
       (record { start = _; opened = s; calls = cs; end = r .0; run = r .1 }, refl)
 
--- every list of calls by the device's own functions, and every one by number
-pub every-run : (o : Opening) (mem : List ℕ) → length mem ≡ o .len → (cs : List Call) → (r : OpenedRun functions o mem) × (r .calls ≡ cs)
+-- every list of calls by the device's own functions and of offers, and every one by number
+pub every-run : (o : Opening) (mem rooms : List ℕ) → length mem ≡ o .len → length rooms ≡ roomsBytes → (cs : List Call) → (r : OpenedRun functions o mem rooms) × (r .calls ≡ cs)
 every-run = opened-run functions by-function
 
-pub every-run-by-number : (o : Opening) (mem : List ℕ) → length mem ≡ o .len → (cs : List Numbered) → (r : OpenedRun numbers o mem) × (r .calls ≡ cs)
+pub every-run-by-number : (o : Opening) (mem rooms : List ℕ) → length mem ≡ o .len → length rooms ≡ roomsBytes → (cs : List Request) → (r : OpenedRun numbers o mem rooms) × (r .calls ≡ cs)
 every-run-by-number = opened-run numbers by-number

@@ -1,5 +1,5 @@
--- What every state that a run reaches has: each live window and each waiting buffer lies in its domain's part. So the guards of
--- the definitions, which only a malformed state could trip, never fire there, and the paper's rule is the whole truth.
+-- What every state that a run reaches has: each live window and each waiting buffer lies in its domain's part, and what a stream holds is
+-- short. So the guards of the definitions, which only a malformed state could trip, never fire there, and the paper's rule is the whole truth.
 use Prim.Native.Nat.{ℕ, zero, suc, _+_, _-_, _/_, _%_, _≤_, _<_}
 use mathlib.Core.Path.{_≡_, refl, sym, ap, subst, _∙_}
 use mathlib.Core.Bool.{Bool, true, false}
@@ -44,7 +44,7 @@ use Rattle.rdmap.specs.Read.{requestAt}
 use Rattle.rdmap.specs.Refusal.{noWriteRight, noReadRight, malformed}
 use Rattle.rdmap.specs.Phase.{isClosed, readiness}
 use Rattle.rdmap.specs.Sends.{noBuffers, currentBuffer}
-use Rattle.rdmap.specs.Stream.{closedStream, opened, closed, postedWhen, postedOn, takenWhen, takenFrom}
+use Rattle.rdmap.specs.Stream.{closedStream, holding, opened, closed, postedWhen, postedOn, takenWhen, takenFrom}
 use Rattle.rdmap.specs.declared.message.Control.{Control}
 use Rattle.rdmap.specs.declared.message.Control.the-variants.{Valid, Refused as ControlRefused}
 use Rattle.rdmap.specs.declared.message.Invalidate.{Invalidate}
@@ -66,20 +66,24 @@ use Rattle.domain.specs.declared.DomainDone.{DomainDone}
 use Rattle.domain.specs.declared.DomainClosed.{DomainClosed}
 use Rattle.domain.specs.declared.DomainTaken.{DomainTaken}
 use Rattle.domain.specs.declared.Received.{Received}
+use Rattle.domain.specs.declared.parts.PartsReceived.{PartsReceived}
 use Rattle.domain.specs.declared.parts.Judged.{Judged}
 use Rattle.domain.specs.declared.parts.Judged.the-variants.{Wait as JudgedWait, Fpdu}
 use Rattle.domain.proofs.Inside.{inside}
 use Rattle.memory.specs.Part.{partFits}
+use Rattle.holding.specs.Offer.{isOpen, holdsAt, domainReceives, domainReceivesBytes, partsOffered, domainOffered, domainOfferedBytes}
 use Rattle.rnic.specs.Rnic.{domainAt, bytesOf}
-use Rattle.isolation.specs.Book.{Call, Answer, View, Observation, Opening, ownerIn, bookReceive, book, partStart, partEnd}
-use Rattle.isolation.specs.Book.Call.{openStream, closeStream, register, dropWindow, post, receive, takeRead, live, free}
-use Rattle.isolation.proofs.Calls.{World, Step, Opened, view}
+use Rattle.rnic.specs.Offer.{roomsBytes}
+use Rattle.isolation.specs.Book.{Call, Answer, View, Observation, Opening, bookReceive, bookOffer, book, partStart, partEnd}
+use Rattle.isolation.specs.Book.Call.{openStream, closeStream, register, dropWindow, post, receive, offer, takeRead, live, free}
+use Rattle.isolation.proofs.Calls.{World, Opened, view}
 use Rattle.isolation.proofs.Runs.{Interface, Run}
-use Rattle.isolation.proofs.Runs.Run.{stop, next}
-use Rattle.isolation.proofs.Induction.{made-fit, run-fit}
-use Rattle.isolation.proofs.Kept.{lastly-holds}
-use Rattle.isolation.proofs.Openings.{opened-fit, opened-view}
-use Rattle.isolation.proofs.Steps.{own, alien}
+use Rattle.holding.proofs.Held.{offered-by, offered-bytes}
+use Rattle.isolation.proofs.Induction.{run-fit}
+use Rattle.isolation.proofs.Invariants.{reached}
+use Rattle.isolation.proofs.Kept.{picked, lastly-holds}
+use Rattle.isolation.proofs.Openings.{opened-fit}
+use Rattle.isolation.proofs.Short.{HeldShort, AllShort, new-short, book-short}
 use Rattle.isolation.proofs.WellFormed.{Fit, part-fits}
 
 -- the buffers that wait, of eight entries, lie in a part
@@ -132,26 +136,14 @@ module _ (p : Part) where
       record { long = z .0; few = z .1; inside = popped-in p bs (omega arith) (w .inside) }
 
   -- ---- a stream's calls
-  done-waits : (t : Bool) (x y : StreamDone) → Waits p (x .stream .sends .buffers) → Waits p (y .stream .sends .buffers) → Waits p (pick t x y .stream .sends .buffers)
-  done-waits true x y f g = f
-  done-waits false x y f g = g
-
-  close-waits : (t : Bool) (x y : StreamClosed) → Waits p (x .stream .sends .buffers) → Waits p (y .stream .sends .buffers) → Waits p (pick t x y .stream .sends .buffers)
-  close-waits true x y f g = f
-  close-waits false x y f g = g
-
-  take-waits : (t : Bool) (x y : StreamTaken) → Waits p (x .stream .sends .buffers) → Waits p (y .stream .sends .buffers) → Waits p (pick t x y .stream .sends .buffers)
-  take-waits true x y f g = f
-  take-waits false x y f g = g
-
   module _ (s : Stream) (w : Waits p (s .sends .buffers)) where
     opened-waits : (crc : Bool) → Waits p (opened s crc .stream .sends .buffers)
     unfolding opened
-    opened-waits crc = done-waits (isClosed (s .phase)) _ _ none-waits w
+    opened-waits crc = picked (λ (r : StreamDone). Waits p (r .stream .sends .buffers)) (isClosed (s .phase)) _ _ (λ e. none-waits) (λ e. w)
 
     closed-waits : Waits p (closed s .stream .sends .buffers)
     unfolding closed
-    closed-waits = close-waits (isClosed (s .phase)) _ _ w none-waits
+    closed-waits = picked (λ (r : StreamClosed). Waits p (r .stream .sends .buffers)) (isClosed (s .phase)) _ _ (λ e. w) (λ e. none-waits)
 
     posted-on-when : (start len : ℕ) (r : Readiness) → Waits p (postedWhen s p start len r .stream .sends .buffers)
     posted-on-when start len Ready = posted-waits (s .sends .buffers) start len w
@@ -162,7 +154,7 @@ module _ (p : Part) where
     posted-on-waits start len = posted-on-when start len (readiness (s .phase))
 
     taken-when-waits : (r : Readiness) → Waits p (takenWhen s r .stream .sends .buffers)
-    taken-when-waits Ready = take-waits (eqb (s .reads .count) 0) _ _ w w
+    taken-when-waits Ready = picked (λ (r : StreamTaken). Waits p (r .stream .sends .buffers)) (eqb (s .reads .count) 0) _ _ (λ e. w) (λ e. w)
     taken-when-waits (NotReady k) = w
 
     taken-waits : Waits p (takenFrom s .stream .sends .buffers)
@@ -192,6 +184,12 @@ module _ (p : Part) where
       received-waits : Waits p (partsReceived ws number s input .stream .sends .buffers)
       unfolding partsReceived
       received-waits = when-waits (readiness (s .phase))
+
+  -- ---- an offer
+  offered-waits :
+      (ws : List Window) (number : ℕ) (s : Stream) (held input : List ℕ) → Waits p (s .sends .buffers) → Waits p (partsOffered ws number s held input .stream .sends .buffers)
+  offered-waits ws number s held input w =
+      offered-by (λ (r : PartsReceived). Waits p (r .stream .sends .buffers)) ws number s held input (λ k o. w) (λ n o q. w) (λ total v o. applied-waits (holding s 0) w total v)
 
 -- ---- a new domain
 pub none-live : (n i : ℕ) → windowAt (replicate n noWindow) i ≡ noWindow
@@ -227,45 +225,32 @@ pub slot-lt : (slot : ℕ) → leb slot 3 ≡ true → slot < 4
 slot-lt slot e = omega (arith, leb-true slot 3 e)
 
 -- ---- each step of a domain keeps it
-done-sound : (t : Bool) (x y : DomainDone) → (t ≡ true → Sound (x .domain)) → Sound (y .domain) → Sound (pick t x y .domain)
-done-sound true x y f g = f refl
-done-sound false x y f g = g
-
-closed-pick : (t : Bool) (x y : DomainClosed) → (t ≡ true → Sound (x .domain)) → Sound (y .domain) → Sound (pick t x y .domain)
-closed-pick true x y f g = f refl
-closed-pick false x y f g = g
-
-taken-pick : (t : Bool) (x y : DomainTaken) → (t ≡ true → Sound (x .domain)) → Sound (y .domain) → Sound (pick t x y .domain)
-taken-pick true x y f g = f refl
-taken-pick false x y f g = g
-
-received-pick : (t : Bool) (x y : Received) → (t ≡ true → Sound (x .domain)) → Sound (y .domain) → Sound (pick t x y .domain)
-received-pick true x y f g = f refl
-received-pick false x y f g = g
-
 module _ (d : Domain) (k : Sound d) where
   pub opened-sound : (slot : ℕ) (crc : Bool) → Sound (domainOpened d slot crc .domain)
   unfolding domainOpened
   opened-sound slot crc =
-      done-sound (leb slot 3) _ _ (λ e. with-stream d slot _ k (slot-lt slot e) (opened-waits (d .part) (streamAt d slot) (k .waiting slot (slot-lt slot e)) crc)) k
+      picked (λ (r : DomainDone). Sound (r .domain)) (leb slot 3) _ _
+      (λ e. with-stream d slot _ k (slot-lt slot e) (opened-waits (d .part) (streamAt d slot) (k .waiting slot (slot-lt slot e)) crc)) (λ e. k)
 
   pub closed-sound : (slot : ℕ) → Sound (domainClosed d slot .domain)
   unfolding domainClosed
   closed-sound slot =
-      closed-pick (leb slot 3) _ _ (λ e. with-stream d slot _ k (slot-lt slot e) (closed-waits (d .part) (streamAt d slot) (k .waiting slot (slot-lt slot e)))) k
+      picked (λ (r : DomainClosed). Sound (r .domain)) (leb slot 3) _ _
+      (λ e. with-stream d slot _ k (slot-lt slot e) (closed-waits (d .part) (streamAt d slot) (k .waiting slot (slot-lt slot e)))) (λ e. k)
 
   pub posted-sound : (slot start len : ℕ) → Sound (domainPosted d slot start len .domain)
   unfolding domainPosted
   posted-sound slot start len =
-      done-sound (leb slot 3) _ _
+      picked (λ (r : DomainDone). Sound (r .domain)) (leb slot 3) _ _
       (λ e. let z = with-stream d slot _ k (slot-lt slot e) (posted-on-waits (d .part) (streamAt d slot) (k .waiting slot (slot-lt slot e)) start len) in
       lastly-holds Sound (domainShares d start len) d _ k (λ q f. z) (λ n q. z))
-      k
+      (λ e. k)
 
   pub taken-sound : (slot : ℕ) → Sound (domainTaken d slot .domain)
   unfolding domainTaken
   taken-sound slot =
-      taken-pick (leb slot 3) _ _ (λ e. with-stream d slot _ k (slot-lt slot e) (taken-waits (d .part) (streamAt d slot) (k .waiting slot (slot-lt slot e)))) k
+      picked (λ (r : DomainTaken). Sound (r .domain)) (leb slot 3) _ _
+      (λ e. with-stream d slot _ k (slot-lt slot e) (taken-waits (d .part) (streamAt d slot) (k .waiting slot (slot-lt slot e)))) (λ e. k)
 
   pub registered-sound : (slot key base len place rights : ℕ) → Sound (domainRegistered d slot key base len place rights .domain)
   unfolding domainRegistered
@@ -282,55 +267,57 @@ module _ (d : Domain) (k : Sound d) where
   killed-in NoStag = k .windowed
   killed-in (Stag i stag) = dropped-in (d .part) (d .windows) i (k .windowed)
 
-  pub received-sound : (number slot : ℕ) (input : List ℕ) → Sound (domainReceived d number slot input .domain)
-  unfolding domainReceived
+  -- what receive or an offer makes of the stream of a slot
+  lifted-sound : (slot : ℕ) (r : PartsReceived) → slot < 4 → Waits (d .part) (r .stream .sends .buffers) → Sound (lifted d slot r .domain)
+  lifted-sound slot r h w = with-windows (withStream d slot (r .stream)) _ (with-stream d slot (r .stream) k h w) (killed-in (r .invalidate))
+
+  pub received-sound : (number slot : ℕ) (input : List ℕ) → Sound (domainReceives d number slot input .domain)
+  unfolding domainReceives domainReceived
   received-sound number slot input =
       let r = partsReceived (d .windows) number (streamAt d slot) input in
-      received-pick (leb slot 3) (lifted d slot r) _
-      (λ e. with-windows (withStream d slot (r .stream)) _
-      (with-stream d slot (r .stream) k (slot-lt slot e) (received-waits (d .part) (streamAt d slot) (k .waiting slot (slot-lt slot e)) (d .windows) number input))
-      (killed-in (r .invalidate)))
-      k
+      picked (λ (x : Received). Sound (x .domain)) (holdsAt d slot) _ _ (λ e. k)
+      (λ q. picked (λ (x : Received). Sound (x .domain)) (leb slot 3) (lifted d slot r) _
+      (λ e. let h = slot-lt slot e in lifted-sound slot r h (received-waits (d .part) (streamAt d slot) (k .waiting slot h) (d .windows) number input)) (λ e. k))
+
+  pub offered-sound : (number slot : ℕ) (held input : List ℕ) → Sound (domainOffered d number slot held input .domain)
+  unfolding domainOffered
+  offered-sound number slot held input =
+      let r = partsOffered (d .windows) number (streamAt d slot) held input in
+      picked (λ (x : Received). Sound (x .domain)) (leb slot 3) (lifted d slot r) _
+      (λ e. let h = slot-lt slot e in lifted-sound slot r h (offered-waits (d .part) (d .windows) number (streamAt d slot) held input (k .waiting slot h))) (λ e. k)
 
 -- ---- over a run
-seen-sound : (t : Bool) (x y : Observation Answer) → Sound (x .after .dom) → Sound (y .after .dom) → Sound (pick t x y .after .dom)
-seen-sound true x y f g = f
-seen-sound false x y f g = g
-
-book-sound : (A : ℕ) (v : View) → Sound (v .dom) → (c : Call) → Sound (book A v c .after .dom)
+pub book-sound : (A : ℕ) (v : View) → Sound (v .dom) → (c : Call) → Sound (book A v c .after .dom)
 book-sound A v k (openStream n crc) = opened-sound (v .dom) k (n % 4) crc
 book-sound A v k (closeStream n) = closed-sound (v .dom) k (n % 4)
 book-sound A v k (register w key base len place rights) = registered-sound (v .dom) k (w % 16) key base len place rights
 book-sound A v k (dropWindow w) = dropped-sound (v .dom) k (w % 16)
 book-sound A v k (post n start len) = posted-sound (v .dom) k (n % 4) start len
-book-sound A v k (receive n input size) = seen-sound (eqb size (v .size)) (bookReceive A v n input) _ (received-sound (v .dom) k A (n % 4) input) k
+book-sound A v k (receive n input size) =
+    picked (λ (o : Observation Answer). Sound (o .after .dom)) (eqb size (v .size)) (bookReceive A v n input) _ (λ e. received-sound (v .dom) k A (n % 4) input) (λ e. k)
+book-sound A v k (offer n input size many) =
+    picked (λ (o : Observation Answer). Sound (o .after .dom)) (both (eqb size (v .size)) (eqb many roomsBytes)) (bookOffer A v n input) _
+    (λ e. offered-sound (v .dom) k A (n % 4) (v .held (n % 4)) input) (λ e. k)
 book-sound A v k (takeRead n) = taken-sound (v .dom) k (n % 4)
 book-sound A v k (live d) = k
 book-sound A v k (free d) = k
 
--- each domain of a world
-abbrev pub AllSound : World → Type 0
-AllSound w = (A : ℕ) → A < 4 → Sound (domainAt (w .dev) A)
+-- what a domain has in every world that a run from an opening reaches
+record Reached (v : View) : Type 0 where
+  sound : Sound (v .dom)
+  short : AllShort (v .dom) (v .held)
 
-pub step-sound : (w : World) (c : Call) (a : Answer) (w₁ : World) → Fit w → AllSound w → Step w c a w₁ → AllSound w₁
-step-sound w c a w₁ f k s A hA = go (decEq (ownerIn (w .dev) c) A)
-  where
-    go : Dec (ownerIn (w .dev) c ≡ A) → Sound (domainAt (w₁ .dev) A)
-    go (yes o) = subst Sound (sym (ap (λ (x : Observation Answer). x .after .dom) (own A hA w c a w₁ f o s))) (book-sound A (view A w) (k A hA) c)
-    go (no o) = subst Sound (sym (ap (λ (x : View). x .dom) (alien A hA w c a w₁ f o s))) (k A hA)
+run-reached :
+    (o : Opening) (mem rooms : List ℕ) {I : Interface} {w w₁ : World} {cs : List (I .Request)} → Opened o mem rooms w → Run I w cs w₁ →
+    (A : ℕ) → A < 4 → Reached (view A w₁)
+run-reached o mem rooms s r A hA =
+    reached Reached A (λ v c k. record { sound = book-sound A v (k .sound) c; short = book-short A v (k .sound .four) (k .short) c }) o mem rooms s r hA
+    (record { sound = new-sound (partStart A o) (partEnd A o); short = new-short (partStart A o) (partEnd A o) })
 
-pub run-sound : {I : Interface} {w w₁ : World} {cs : List (I .Request)} → Fit w → AllSound w → Run I w cs w₁ → AllSound w₁
-run-sound f k stop = k
-run-sound {I = I} f k (next {w = w} {c = c} x w₁ s r) =
-    let n = I .is-step w c x w₁ s in
-    run-sound (made-fit I f s) (step-sound w (I .call c) (n .0) w₁ f k (n .1)) r
-
-pub opening-sound : (o : Opening) (mem : List ℕ) (w : World) → Opened o mem w → AllSound w
-opening-sound o mem w s A hA = subst Sound (sym (ap (λ (x : View). x .dom) (opened-view o mem w s A hA))) (new-sound (partStart A o) (partEnd A o))
-
--- every domain of a world that a run from an opening reaches
-pub reached-sound : (o : Opening) (mem : List ℕ) {I : Interface} {w w₁ : World} {cs : List (I .Request)} → Opened o mem w → Run I w cs w₁ → AllSound w₁
-reached-sound o mem {w = w} s r = run-sound (opened-fit o mem w s) (opening-sound o mem w s) r
+pub reached-sound :
+    (o : Opening) (mem rooms : List ℕ) {I : Interface} {w w₁ : World} {cs : List (I .Request)} → Opened o mem rooms w → Run I w cs w₁ →
+    (A : ℕ) → A < 4 → Sound (domainAt (w₁ .dev) A)
+reached-sound o mem rooms s r A hA = run-reached o mem rooms s r A hA .sound
 
 -- ---- where a payload goes
 
@@ -363,6 +350,12 @@ payloadOf input (Wait n) = []
 payloadOf input (SegmentRefused r) = []
 payloadOf input (TaggedSegment total h start len) = part input start len
 payloadOf input (UntaggedSegment total h start len) = part input start len
+
+-- what the rule makes of the bytes of domain number, of bytes p on its stream of a slot
+abbrev pub byRule : Domain → ℕ → ℕ → List ℕ → List ℕ → List ℕ
+byRule d number slot p bytes =
+    let x : SegmentRead = segmentRead (streamAt d slot .framing .crc) p in
+    ruled (d .part .start) (partsVerdict (d .windows) number (streamAt d slot) p x) (payloadOf p x) bytes
 
 -- what lies in the part is placed whole
 pub placed-whole :
@@ -534,41 +527,65 @@ module _ (d : Domain) (k : Sound d) (number slot : ℕ) (h : slot < 4) (input : 
         (judged-lands (UntaggedSegment total t start len) e)
 
     -- what an open stream receives is placed by the rule alone
-    pub placed-where-judged :
-        readiness (streamAt d slot .phase) ≡ Ready →
-        domainReceivedBytes d number slot input bytes
-        ≡ ruled (d .part .start) (partsVerdict (d .windows) number (streamAt d slot) input (segmentRead (streamAt d slot .framing .crc) input)) (payloadOf input (segmentRead (streamAt d slot .framing .crc) input)) bytes
+    pub placed-where-judged : readiness (streamAt d slot .phase) ≡ Ready → domainReceivedBytes d number slot input bytes ≡ byRule d number slot input bytes
     unfolding domainReceivedBytes partsReceivedBytes
     placed-where-judged ready =
         ap (λ (t : Bool). pick t (partsReceivedBytes (d .part) (d .windows) number (streamAt d slot) input bytes) bytes) (le-leb slot 3 (omega arith))
         ∙ ap (λ (r : Readiness). partsBytesWhen (d .part) (d .windows) number (streamAt d slot) input bytes r) ready
         ∙ segment-whole (segmentRead (streamAt d slot .framing .crc) input) refl
 
+-- the same of receive, where the stream holds nothing, and of an offer, with the pending bytes
+module _ (d : Domain) (k : Sound d) (number slot : ℕ) (h : slot < 4) (bytes : List ℕ) (long : length bytes ≡ d .part .end - d .part .start) (ready : readiness (streamAt d slot .phase) ≡ Ready) where
+  received-by-rule : (input : List ℕ) → streamAt d slot .framing .held ≡ 0 → domainReceivesBytes d number slot input bytes ≡ byRule d number slot input bytes
+  unfolding domainReceivesBytes
+  received-by-rule input none =
+      ap (λ (b : Bool). pick b bytes (domainReceivedBytes d number slot input bytes)) empty
+      ∙ placed-where-judged d k number slot h input bytes long ready
+    where
+      off : (a b : Bool) → both a (both b false) ≡ false
+      off true true = refl
+      off true false = refl
+      off false b = refl
+
+      empty : holdsAt d slot ≡ false
+      empty = ap (λ (n : ℕ). both (leb slot 3) (both (isOpen (streamAt d slot)) (ltb 0 n))) none ∙ off (leb slot 3) (isOpen (streamAt d slot))
+
+  offered-by-rule : (held input : List ℕ) → domainOfferedBytes d number slot held input bytes ≡ byRule d number slot (held ++ input) bytes
+  offered-by-rule held input = offered-bytes d number slot held input bytes ∙ placed-where-judged d k number slot h (held ++ input) bytes long ready
+
 -- ---- every world that a run from an opening reaches: no domain's part lies out of the store, and a payload that is judged to be
--- placed lies in the part, so that what becomes of the bytes is the rule with no guard
+-- placed lies in the part, so that what becomes of the bytes is the rule with no guard. What a stream holds fits its room
 pub record Unguarded (w : World) (A : ℕ) : Type 0 where
   pub sound : Sound (domainAt (w .dev) A)
   pub in-store : partFits (domainAt (w .dev) A .part) (length (w .mem)) ≡ true
+  pub held-short : (slot : ℕ) → slot < 4 → HeldShort (streamAt (domainAt (w .dev) A) slot) (view A w .held slot)
   pub in-part :
       (slot : ℕ) → slot < 4 → (input : List ℕ) (s : SegmentRead) → s ≡ segmentRead (streamAt (domainAt (w .dev) A) slot .framing .crc) input →
       Lands (domainAt (w .dev) A .part) (partsVerdict (domainAt (w .dev) A .windows) A (streamAt (domainAt (w .dev) A) slot) input s) (length (payloadOf input s))
+  -- receive on an open stream that holds nothing
   pub by-rule :
+      (slot : ℕ) → slot < 4 → (input : List ℕ) → readiness (streamAt (domainAt (w .dev) A) slot .phase) ≡ Ready → view A w .held slot ≡ [] →
+      domainReceivesBytes (domainAt (w .dev) A) A slot input (bytesOf (domainAt (w .dev) A) (w .mem)) ≡ byRule (domainAt (w .dev) A) A slot input (bytesOf (domainAt (w .dev) A) (w .mem))
+  -- an offer on an open stream, of the pending bytes
+  pub offered-by-rule :
       (slot : ℕ) → slot < 4 → (input : List ℕ) → readiness (streamAt (domainAt (w .dev) A) slot .phase) ≡ Ready →
-      domainReceivedBytes (domainAt (w .dev) A) A slot input (bytesOf (domainAt (w .dev) A) (w .mem))
-      ≡ ruled (domainAt (w .dev) A .part .start)
-      (partsVerdict (domainAt (w .dev) A .windows) A (streamAt (domainAt (w .dev) A) slot) input (segmentRead (streamAt (domainAt (w .dev) A) slot .framing .crc) input))
-      (payloadOf input (segmentRead (streamAt (domainAt (w .dev) A) slot .framing .crc) input))
-      (bytesOf (domainAt (w .dev) A) (w .mem))
+      domainOfferedBytes (domainAt (w .dev) A) A slot (view A w .held slot) input (bytesOf (domainAt (w .dev) A) (w .mem))
+      ≡ byRule (domainAt (w .dev) A) A slot (view A w .held slot ++ input) (bytesOf (domainAt (w .dev) A) (w .mem))
 
 pub guards-never-fire :
-    (o : Opening) (mem : List ℕ) {I : Interface} {w w₁ : World} {cs : List (I .Request)} → Opened o mem w → Run I w cs w₁ →
+    (o : Opening) (mem rooms : List ℕ) {I : Interface} {w w₁ : World} {cs : List (I .Request)} → Opened o mem rooms w → Run I w cs w₁ →
     (A : ℕ) → A < 4 → Unguarded w₁ A
-guards-never-fire o mem {I = I} {w = w} {w₁ = w₁} s r A hA =
-    let f : Fit w₁ = run-fit I (opened-fit o mem w s) r in
-    let k : Sound (domainAt (w₁ .dev) A) = reached-sound o mem s r A hA in
+guards-never-fire o mem rooms {I = I} {w = w} {w₁ = w₁} s r A hA =
+    let f : Fit w₁ = run-fit I (opened-fit o mem rooms w s) r in
+    let d : Domain = domainAt (w₁ .dev) A in
+    let k : Reached (view A w₁) = run-reached o mem rooms s r A hA in
+    let bytes : List ℕ = bytesOf d (w₁ .mem) in
+    let long : length bytes ≡ d .part .end - d .part .start = mid-len _ _ (w₁ .mem) (f .within A hA) in
     record {
-      sound = k;
+      sound = k .sound;
       in-store = part-fits w₁ f A hA (length (w₁ .mem)) refl;
-      in-part = λ slot h input. judged-lands (domainAt (w₁ .dev) A) k A slot h input;
-      by-rule = λ slot h input. placed-where-judged (domainAt (w₁ .dev) A) k A slot h input (bytesOf (domainAt (w₁ .dev) A) (w₁ .mem)) (mid-len _ _ (w₁ .mem) (f .within A hA));
+      held-short = k .short;
+      in-part = λ slot h input. judged-lands d (k .sound) A slot h input;
+      by-rule = λ slot h input ready e. received-by-rule d (k .sound) A slot h bytes long ready input (sym (k .short slot h .counted) ∙ ap length e);
+      offered-by-rule = λ slot h input ready. offered-by-rule d (k .sound) A slot h bytes long ready (view A w₁ .held slot) input;
     }

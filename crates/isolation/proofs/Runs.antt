@@ -39,10 +39,10 @@ pub data Run (I : Interface) : World → List (I .Request) → World → Type 0 
       {w w₂ : World} {c : I .Request} {cs : List (I .Request)} (x : I .Reply) (w₁ : World) →
       I .Made w c x w₁ → Run I w₁ cs w₂ → Run I w (c ∷ cs) w₂
 
--- a whole run, from an opening of a store on (the paper's night)
-pub record OpenedRun (I : Interface) (o : Opening) (mem : List ℕ) : Type 0 where
+-- a whole run, from an opening of a store and a second slice on (the paper's night)
+pub record OpenedRun (I : Interface) (o : Opening) (mem rooms : List ℕ) : Type 0 where
   pub start : World
-  pub opened : Opened o mem start
+  pub opened : Opened o mem rooms start
   pub calls : List (I .Request)
   pub end : World
   pub run : Run I start calls end

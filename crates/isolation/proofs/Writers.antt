@@ -1,4 +1,4 @@
--- The writers of a domain share no byte: each step of a domain keeps it so. Dropping, closing, taking and receiving leave fewer writers,
+-- The writers of a domain share no byte: each step of a domain keeps it so. Dropping, closing, taking, receiving and offering leave fewer writers,
 -- each where it was; registering and posting add at most one, which shares no byte with those that are there, or 19 refuses it.
 use Prim.Native.Nat.{ℕ, zero, suc, _+_, _-_, _≤_, _<_}
 use mathlib.Core.Logic.{_≢_}
@@ -25,7 +25,7 @@ use Rattle.memory.specs.declared.window.WindowDone.{WindowDone}
 use Rattle.ddp.specs.Segment.{segmentRead}
 use Rattle.rdmap.specs.Phase.{isClosed, readiness}
 use Rattle.rdmap.specs.Sends.{noBuffers}
-use Rattle.rdmap.specs.Stream.{closedStream, withSends, opened, closed, postedWhen, postedOn, takenWhen, takenFrom}
+use Rattle.rdmap.specs.Stream.{closedStream, withSends, holding, opened, closed, postedWhen, postedOn, takenWhen, takenFrom}
 use Rattle.rdmap.specs.declared.message.Invalidate.{Invalidate}
 use Rattle.rdmap.specs.declared.message.Invalidate.the-variants.{NoStag, Stag}
 use Rattle.rdmap.specs.declared.message.Verdict.{Verdict}
@@ -44,11 +44,14 @@ use Rattle.domain.specs.declared.DomainDone.{DomainDone}
 use Rattle.domain.specs.declared.DomainClosed.{DomainClosed}
 use Rattle.domain.specs.declared.DomainTaken.{DomainTaken}
 use Rattle.domain.specs.declared.Received.{Received}
+use Rattle.domain.specs.declared.parts.PartsReceived.{PartsReceived}
 use Rattle.domain.specs.declared.parts.Judged.{Judged}
 use Rattle.domain.specs.declared.parts.Judged.the-variants.{Wait as JudgedWait, Fpdu}
+use Rattle.holding.specs.Offer.{holdsAt, domainReceives, partsOffered, domainOffered}
 use Rattle.isolation.specs.Writers.{Writer, buffersOf, bufferAt, Writes, startOf, lenOf, Covers, Apart}
 use Rattle.isolation.specs.Writers.Writer.{window, buffer}
-use Rattle.isolation.proofs.Kept.{lastly-holds}
+use Rattle.holding.proofs.Held.{offered-by}
+use Rattle.isolation.proofs.Kept.{picked, lastly-holds}
 use Rattle.isolation.proofs.Reachable.{Sound, none-live, slot-lt}
 
 -- ---- a byte in common
@@ -261,28 +264,16 @@ module _ (s : Stream) where
   less-same : Less s s
   less-same = (0, shifted-same (s .sends .buffers))
 
-  done-less : (t : Bool) (x y : StreamDone) → Less s (x .stream) → Less s (y .stream) → Less s (pick t x y .stream)
-  done-less true x y f g = f
-  done-less false x y f g = g
-
-  close-less : (t : Bool) (x y : StreamClosed) → Less s (x .stream) → Less s (y .stream) → Less s (pick t x y .stream)
-  close-less true x y f g = f
-  close-less false x y f g = g
-
-  take-less : (t : Bool) (x y : StreamTaken) → Less s (x .stream) → Less s (y .stream) → Less s (pick t x y .stream)
-  take-less true x y f g = f
-  take-less false x y f g = g
-
   opened-less : (crc : Bool) → Less s (opened s crc .stream)
   unfolding opened
-  opened-less crc = done-less (isClosed (s .phase)) _ _ (0, shifted-none (s .sends .buffers)) less-same
+  opened-less crc = picked (λ (r : StreamDone). Less s (r .stream)) (isClosed (s .phase)) _ _ (λ e. (0, shifted-none (s .sends .buffers))) (λ e. less-same)
 
   closed-less : Less s (closed s .stream)
   unfolding closed
-  closed-less = close-less (isClosed (s .phase)) _ _ less-same (0, shifted-none (s .sends .buffers))
+  closed-less = picked (λ (r : StreamClosed). Less s (r .stream)) (isClosed (s .phase)) _ _ (λ e. less-same) (λ e. (0, shifted-none (s .sends .buffers)))
 
   taken-when-less : (r : Readiness) → Less s (takenWhen s r .stream)
-  taken-when-less Ready = take-less (eqb (s .reads .count) 0) _ _ less-same less-same
+  taken-when-less Ready = picked (λ (r : StreamTaken). Less s (r .stream)) (eqb (s .reads .count) 0) _ _ (λ e. less-same) (λ e. less-same)
   taken-when-less (NotReady k) = less-same
 
   taken-less : Less s (takenFrom s .stream)
@@ -311,6 +302,13 @@ module _ (s : Stream) where
     received-less : (ws : List Window) (number : ℕ) (input : List ℕ) → Less s (partsReceived ws number s input .stream)
     unfolding partsReceived
     received-less ws number input = when-less ws number input (readiness (s .phase))
+
+-- an offer that is judged is so with nothing held
+offered-less :
+    (s : Stream) → s .sends .buffers .count ≤ length (s .sends .buffers .entries) → (ws : List Window) (number : ℕ) (held input : List ℕ) →
+    Less s (partsOffered ws number s held input .stream)
+offered-less s fits ws number held input =
+    offered-by (λ (r : PartsReceived). Less s (r .stream)) ws number s held input (λ k o. less-same s) (λ n o w. less-same s) (λ total v o. applied-less (holding s 0) fits total v)
 
 -- put in its slot
 module _ (d : Domain) (k : Sound d) (slot : ℕ) (h : slot < 4) (s : Stream) where
@@ -519,22 +517,6 @@ buffer-more d sound slot h start len s e room = record {
                 (ap (λ (x : Buffers). getD (x .entries) k noBuffer) now ∙ getD-set-other (bs .entries) (bs .count) k new noBuffer n)
 
 -- ---- each step of a domain keeps its writers apart
-done-apart : (t : Bool) (x y : DomainDone) → (t ≡ true → Apart (x .domain)) → Apart (y .domain) → Apart (pick t x y .domain)
-done-apart true x y f g = f refl
-done-apart false x y f g = g
-
-closed-pick : (t : Bool) (x y : DomainClosed) → (t ≡ true → Apart (x .domain)) → Apart (y .domain) → Apart (pick t x y .domain)
-closed-pick true x y f g = f refl
-closed-pick false x y f g = g
-
-taken-pick : (t : Bool) (x y : DomainTaken) → (t ≡ true → Apart (x .domain)) → Apart (y .domain) → Apart (pick t x y .domain)
-taken-pick true x y f g = f refl
-taken-pick false x y f g = g
-
-received-pick : (t : Bool) (x y : Received) → (t ≡ true → Apart (x .domain)) → Apart (y .domain) → Apart (pick t x y .domain)
-received-pick true x y f g = f refl
-received-pick false x y f g = g
-
 module _ (d : Domain) (k : Sound d) (p : Apart d) where
   stream-apart : (slot : ℕ) → slot < 4 → (s : Stream) → Less (streamAt d slot) s → Apart (withStream d slot s)
   stream-apart slot h s l = fewer-apart d _ (stream-fewer d k slot h s l) p
@@ -542,34 +524,44 @@ module _ (d : Domain) (k : Sound d) (p : Apart d) where
   -- opening leaves fewer
   pub opened-apart : (slot : ℕ) (crc : Bool) → Apart (domainOpened d slot crc .domain)
   unfolding domainOpened
-  opened-apart slot crc = done-apart (leb slot 3) _ _ (λ e. stream-apart slot (slot-lt slot e) _ (opened-less (streamAt d slot) crc)) p
+  opened-apart slot crc = picked (λ (r : DomainDone). Apart (r .domain)) (leb slot 3) _ _ (λ e. stream-apart slot (slot-lt slot e) _ (opened-less (streamAt d slot) crc)) (λ e. p)
 
   -- and closing
   pub closed-apart : (slot : ℕ) → Apart (domainClosed d slot .domain)
   unfolding domainClosed
-  closed-apart slot = closed-pick (leb slot 3) _ _ (λ e. stream-apart slot (slot-lt slot e) _ (closed-less (streamAt d slot))) p
+  closed-apart slot = picked (λ (r : DomainClosed). Apart (r .domain)) (leb slot 3) _ _ (λ e. stream-apart slot (slot-lt slot e) _ (closed-less (streamAt d slot))) (λ e. p)
 
   -- and taking a read
   pub taken-apart : (slot : ℕ) → Apart (domainTaken d slot .domain)
   unfolding domainTaken
-  taken-apart slot = taken-pick (leb slot 3) _ _ (λ e. stream-apart slot (slot-lt slot e) _ (taken-less (streamAt d slot))) p
+  taken-apart slot = picked (λ (r : DomainTaken). Apart (r .domain)) (leb slot 3) _ _ (λ e. stream-apart slot (slot-lt slot e) _ (taken-less (streamAt d slot))) (λ e. p)
 
   -- and dropping a window
   pub dropped-apart : (slot : ℕ) → Apart (domainDropped d slot .domain)
   unfolding domainDropped
   dropped-apart slot = fewer-apart d _ (dropped-fewer d slot) p
 
-  -- and receiving: a buffer is used, a window invalidated
-  pub received-apart : (number slot : ℕ) (input : List ℕ) → Apart (domainReceived d number slot input .domain)
-  unfolding domainReceived
+  -- and receiving, at once or by offers: a buffer is used, a window invalidated
+  lifted-apart : (slot : ℕ) (r : PartsReceived) → slot < 4 → Less (streamAt d slot) (r .stream) → Apart (lifted d slot r .domain)
+  lifted-apart slot r h l = let s = withStream d slot (r .stream) in fewer-apart s _ (killed-fewer s (r .invalidate)) (stream-apart slot h (r .stream) l)
+
+  few : (slot : ℕ) → slot < 4 → buffersOf d slot .count ≤ length (buffersOf d slot .entries)
+  few slot h = omega (arith, k .waiting slot h .few, k .waiting slot h .long)
+
+  pub received-apart : (number slot : ℕ) (input : List ℕ) → Apart (domainReceives d number slot input .domain)
+  unfolding domainReceives domainReceived
   received-apart number slot input =
       let r = partsReceived (d .windows) number (streamAt d slot) input in
-      received-pick (leb slot 3) (lifted d slot r) _
-      (λ e. let h = slot-lt slot e in
-      let s = withStream d slot (r .stream) in
-      fewer-apart s _ (killed-fewer s (r .invalidate))
-      (stream-apart slot h (r .stream) (received-less (streamAt d slot) (omega (arith, k .waiting slot h .few, k .waiting slot h .long)) (d .windows) number input)))
-      p
+      picked (λ (x : Received). Apart (x .domain)) (holdsAt d slot) _ _ (λ e. p)
+      (λ q. picked (λ (x : Received). Apart (x .domain)) (leb slot 3) (lifted d slot r) _
+      (λ e. let h = slot-lt slot e in lifted-apart slot r h (received-less (streamAt d slot) (few slot h) (d .windows) number input)) (λ e. p))
+
+  pub offered-apart : (number slot : ℕ) (held input : List ℕ) → Apart (domainOffered d number slot held input .domain)
+  unfolding domainOffered
+  offered-apart number slot held input =
+      let r = partsOffered (d .windows) number (streamAt d slot) held input in
+      picked (λ (x : Received). Apart (x .domain)) (leb slot 3) (lifted d slot r) _
+      (λ e. let h = slot-lt slot e in lifted-apart slot r h (offered-less (streamAt d slot) (few slot h) (d .windows) number held input)) (λ e. p)
 
   -- a window with the write right that shares a byte with a writer is refused, so what is registered shares none
   pub registered-apart : (slot key base len place rights : ℕ) → Apart (domainRegistered d slot key base len place rights .domain)
@@ -598,14 +590,14 @@ module _ (d : Domain) (k : Sound d) (p : Apart d) where
   pub posted-apart : (slot start len : ℕ) → Apart (domainPosted d slot start len .domain)
   unfolding domainPosted
   posted-apart slot start len =
-      done-apart (leb slot 3) _ _
+      picked (λ (r : DomainDone). Apart (r .domain)) (leb slot 3) _ _
       (λ e. let h = slot-lt slot e in
       posted-on-by (λ r. Apart (lastly (domainShares d start len) d (record { outcome = r .outcome; domain = withStream d slot (r .stream) }) .domain))
       (streamAt d slot) (d .part) start len
       (λ n. let z = stream-apart slot h (streamAt d slot) (less-same (streamAt d slot)) in lastly-holds Apart (domainShares d start len) d _ p (λ q f. z) (λ m q. z))
       (λ s q room. lastly-holds Apart (domainShares d start len) d _ p
       (λ e f. more-apart start len d _ _ (buffer-more d k slot h start len s q room) f p) (λ n e. let no : _≡_ {A = ℕ} 0 1 = cc in absurd (omega arith))))
-      p
+      (λ e. p)
 
 -- ---- a new domain has no writer
 no-buffer-yet : (n j : ℕ) → getD (replicate n closedStream) j noStream .sends .buffers .count ≡ 0

@@ -3,7 +3,7 @@
 use Prim.Native.Nat.{ℕ, _/_, _%_, _-_}
 use mathlib.Core.Bool.{Bool}
 use mathlib.Core.List.{List, [], _∷_}
-use lib.ListN.{getD}
+use lib.ListN.{length, getD, take}
 use lib.Dec.{leb, eqb}
 use borrow.Rule.Slice.PartMut.{midOf}
 use Rattle.wire.specs.Wire.{pick, both}
@@ -11,16 +11,21 @@ use Rattle.memory.specs.Window.{liveCount, lowestFree}
 use Rattle.memory.specs.declared.part.Outcome.{Outcome}
 use Rattle.rdmap.specs.declared.stream.CloseAnswer.{CloseAnswer}
 use Rattle.rdmap.specs.declared.stream.TakeAnswer.{TakeAnswer}
-use Rattle.domain.specs.Domain.{newDomain, domainOpened, domainClosed, domainPosted, domainTaken, domainRegistered, domainDropped, domainReceived, domainReceivedBytes}
+use Rattle.domain.specs.Domain.{newDomain, domainOpened, domainClosed, domainPosted, domainTaken, domainRegistered, domainDropped, streamAt}
 use Rattle.domain.specs.declared.Answer.{Answer as ReceiveAnswer}
 use Rattle.domain.specs.declared.Answer.the-variants.{Refused}
 use Rattle.domain.specs.declared.Domain.{Domain}
+use Rattle.holding.specs.Offer.{domainReceives, domainReceivesBytes, offerAnswer, domainOffered, domainOfferedBytes, domainOfferedHeld}
+use Rattle.holding.specs.declared.OfferAnswer.{OfferAnswer}
+use Rattle.holding.specs.declared.OfferAnswer.the-variants.{Refused as NotOffered}
+use Rattle.rnic.specs.Offer.{roomsBytes}
 use Rattle.rnic.specs.Rnic.{inOrder}
 use Rattle.rnic.specs.declared.Rnic.{Rnic}
 use Rattle.rnic.specs.declared.Count.{Count}
 use Rattle.rnic.specs.declared.Count.the-variants.{Counted}
 
--- a call, with its numbers; `receive` with the bytes and the length of the slice lent as the store
+-- a call, with its numbers; `receive` with the bytes and the length of the slice lent as the store, `offer` also with that of the slice lent
+-- as the second
 pub data Call : Type 0 where
   openStream : (n : ℕ) → (crc : Bool) → Call
   closeStream : (n : ℕ) → Call
@@ -28,6 +33,7 @@ pub data Call : Type 0 where
   dropWindow : (w : ℕ) → Call
   post : (n start len : ℕ) → Call
   receive : (n : ℕ) → (input : List ℕ) → (k : ℕ) → Call
+  offer : (n : ℕ) → (input : List ℕ) → (k m : ℕ) → Call
   takeRead : (n : ℕ) → Call
   live : (d : ℕ) → Call
   free : (d : ℕ) → Call
@@ -36,6 +42,7 @@ pub data Answer : Type 0 where
   done : Outcome → Answer
   closed : CloseAnswer → Answer
   received : ReceiveAnswer → Answer
+  offered : OfferAnswer → Answer
   taken : TakeAnswer → Answer
   counted : Count → Answer
 
@@ -59,17 +66,20 @@ ownerIn b (register w key base len place rights) = ofWindow w
 ownerIn b (dropWindow w) = ofWindow w
 ownerIn b (post n start len) = ofStream n
 ownerIn b (receive n input k) = ofStream n
+ownerIn b (offer n input k m) = ofStream n
 ownerIn b (takeRead n) = ofStream n
 ownerIn b (live d) = ofDomain d
 ownerIn b (free d) = ofDomain d
 
 -- ---- what A has and observes
 
--- A's view: the store's length, A's entry and A's bytes
+-- A's view: the store's length, A's entry, A's bytes of the store, and the bytes that the stream of each slot holds. What else the second
+-- slice contains is in nobody's view
 pub record View : Type 0 where
   pub size : ℕ
   pub dom : Domain
   pub bytes : List ℕ
+  pub held : ℕ → List ℕ
 
 -- what A observes of a call of its own: the answer, in the form R in which it is given, and A's view afterwards
 pub record Observation (R : Type 0) : Type 0 where
@@ -78,20 +88,39 @@ pub record Observation (R : Type 0) : Type 0 where
 
 -- ---- A's book: fed A's number, A's view and A's call alone
 
+-- a stream holds as many bytes as its record says. No call but an offer adds to them; close empties them
+abbrev pub heldBy : Domain → (ℕ → List ℕ) → ℕ → List ℕ
+heldBy d held slot = take (streamAt d slot .framing .held) (held slot)
+
 -- a step that changes the entry, and no byte
 abbrev pub entered : View → Answer → Domain → Observation Answer
-entered v a d = record { answer = a; after = record { size = v .size; dom = d; bytes = v .bytes } }
+entered v a d = record { answer = a; after = record { size = v .size; dom = d; bytes = v .bytes; held = heldBy d (v .held) } }
 
 -- a receive that is lent the store
 abbrev pub bookReceive : ℕ → View → ℕ → List ℕ → Observation Answer
 bookReceive A v n input = record {
-  answer = received (domainReceived (v .dom) A (n % 4) input .answer);
+  answer = received (domainReceives (v .dom) A (n % 4) input .answer);
   after = record {
     size = v .size;
-    dom = domainReceived (v .dom) A (n % 4) input .domain;
-    bytes = domainReceivedBytes (v .dom) A (n % 4) input (v .bytes);
+    dom = domainReceives (v .dom) A (n % 4) input .domain;
+    bytes = domainReceivesBytes (v .dom) A (n % 4) input (v .bytes);
+    held = heldBy (domainReceives (v .dom) A (n % 4) input .domain) (v .held);
   };
 }
+
+-- an offer that is lent the store and the second slice: it goes by the bytes that the stream holds, and changes no other stream's
+abbrev pub bookOffer : ℕ → View → ℕ → List ℕ → Observation Answer
+bookOffer A v n input =
+    let h : List ℕ = v .held (n % 4) in
+    record {
+      answer = offered (offerAnswer (length h) (length input) (domainOffered (v .dom) A (n % 4) h input .answer));
+      after = record {
+        size = v .size;
+        dom = domainOffered (v .dom) A (n % 4) h input .domain;
+        bytes = domainOfferedBytes (v .dom) A (n % 4) h input (v .bytes);
+        held = λ slot. pick (eqb slot (n % 4)) (domainOfferedHeld (v .dom) A (n % 4) h input) (v .held slot);
+      };
+    }
 
 abbrev pub book : ℕ → View → Call → Observation Answer
 book A v (openStream n crc) = entered v (done (domainOpened (v .dom) (n % 4) crc .outcome)) (domainOpened (v .dom) (n % 4) crc .domain)
@@ -102,6 +131,7 @@ book A v (dropWindow w) = entered v (done (domainDropped (v .dom) (w % 16) .outc
 book A v (post n start len) =
     entered v (done (domainPosted (v .dom) (n % 4) start len .outcome)) (domainPosted (v .dom) (n % 4) start len .domain)
 book A v (receive n input k) = pick (eqb k (v .size)) (bookReceive A v n input) (record { answer = received (Refused 2); after = v })
+book A v (offer n input k m) = pick (both (eqb k (v .size)) (eqb m roomsBytes)) (bookOffer A v n input) (record { answer = offered (NotOffered 2); after = v })
 book A v (takeRead n) = entered v (taken (domainTaken (v .dom) (n % 4) .answer)) (domainTaken (v .dom) (n % 4) .domain)
 book A v (live d) = record { answer = counted (Counted (liveCount (v .dom .windows))); after = v }
 book A v (free d) = record { answer = counted (Counted (lowestFree (v .dom .windows))); after = v }
@@ -149,4 +179,4 @@ firstBytes A o mem = midOf (partStart A o) (partEnd A o - partStart A o) mem
 
 -- A's first view, of those bytes
 abbrev pub firstView : ℕ → Opening → List ℕ → View
-firstView A o bytes = record { size = pick (opens o) (o .len) 0; dom = newDomain (partStart A o) (partEnd A o); bytes = bytes }
+firstView A o bytes = record { size = pick (opens o) (o .len) 0; dom = newDomain (partStart A o) (partEnd A o); bytes = bytes; held = λ slot. [] }

@@ -1,3 +1,4 @@
 pub mod Book
 pub mod Number
+pub mod Uncut
 pub mod Writers

@@ -1,13 +1,14 @@
--- A call by its number, as `call` of the crate `calls` takes it: which call it is, and the words of its answer.
+-- A call in numbers: by its own number, as `call` of the crate `calls` takes it, or an offer, which has none. Which call it is, and the
+-- words of its answer.
 use Prim.Native.Nat.{ℕ, _≤_}
 use mathlib.Core.List.{List}
 use lib.Dec.{eqb}
 use Rattle.wire.specs.Wire.{pick}
-use Rattle.calls.specs.Words.{outcomeWords, closeWords, takeWords, countWords, answerWords}
+use Rattle.calls.specs.Words.{outcomeWords, closeWords, takeWords, countWords, answerWords, offerWords}
 use Rattle.calls.specs.Call.{arg, crcOn}
 use Rattle.isolation.specs.Book.{Call, Answer}
-use Rattle.isolation.specs.Book.Call.{openStream, closeStream, register, dropWindow, post, receive, takeRead, live, free}
-use Rattle.isolation.specs.Book.Answer.{done, closed, received, taken, counted}
+use Rattle.isolation.specs.Book.Call.{openStream, closeStream, register, dropWindow, post, receive, offer, takeRead, live, free}
+use Rattle.isolation.specs.Book.Answer.{done, closed, received, offered, taken, counted}
 
 -- a call's number, its nine numbers, its bytes, and the length of the slice lent.
 -- Number 0, `open`, makes another device and so starts another run: a run is what lies between two openings
@@ -34,10 +35,20 @@ callOf c =
     (pick (eqb (c .number) 9) (receive (n 0) (c .input) (c .size))
     (live 4)))))))))
 
+-- a call by its number; or an offer on a stream, with its bytes and the lengths of the slices lent as the store and as the second
+pub data Request : Type 0 where
+  byNumber : (c : Numbered) → Request
+  offering : (n : ℕ) → (input : List ℕ) → (k m : ℕ) → Request
+
+abbrev pub requested : Request → Call
+requested (byNumber c) = callOf c
+requested (offering n input k m) = offer n input k m
+
 -- the words of an answer, by specs/Words.antt of the crate `calls`
 abbrev pub replyWords : Answer → List ℕ
 replyWords (done o) = outcomeWords o
 replyWords (closed o) = closeWords o
 replyWords (received o) = answerWords o
+replyWords (offered o) = offerWords o
 replyWords (taken o) = takeWords o
 replyWords (counted o) = countWords o

@@ -3,7 +3,7 @@ use Prim.Native.Nat.{ℕ, _+_, _%_, _≤_, _<_}
 use mathlib.Core.Logic.{_≢_}
 use mathlib.Core.Path.{_≡_}
 use mathlib.Core.Bool.{true, false}
-use mathlib.Core.List.{List}
+use mathlib.Core.List.{List, _++_}
 use lib.ListN.{getD}
 use Rattle.memory.specs.Window.{windowAt, slotNamed}
 use Rattle.memory.specs.Buffer.{noBuffer}
@@ -16,9 +16,10 @@ use Rattle.domain.specs.Domain.{streamAt}
 use Rattle.domain.specs.Sharing.{shares, writable}
 use Rattle.domain.specs.declared.Domain.{Domain}
 use Rattle.rnic.specs.Rnic.{domainAt}
+use Rattle.rnic.specs.Offer.{heldBytes}
 use Rattle.rnic.specs.declared.Rnic.{Rnic}
 use Rattle.isolation.specs.Book.{Call, ofStream}
-use Rattle.isolation.specs.Book.Call.{openStream, closeStream, register, dropWindow, post, receive, takeRead, live, free}
+use Rattle.isolation.specs.Book.Call.{openStream, closeStream, register, dropWindow, post, receive, offer, takeRead, live, free}
 
 -- the window of a slot, or the buffer that waits as the k-th on the stream of a slot
 pub data Writer : Type 0 where
@@ -68,14 +69,16 @@ target slot (Untagged total h start len) = buffer slot 0
 abbrev pub receiver : Domain → ℕ → List ℕ → Writer
 receiver d slot input = target slot (segmentRead (streamAt d slot .framing .crc) input)
 
--- the one writer, of one domain, that a call may fill: a receive on stream n fills its receiver, and no other call fills any
-abbrev pub Fills : Rnic → Call → ℕ → Writer → Type 0
-Fills b (openStream n crc) A a = ⊥
-Fills b (closeStream n) A a = ⊥
-Fills b (register w key base len place rights) A a = ⊥
-Fills b (dropWindow w) A a = ⊥
-Fills b (post n start len) A a = ⊥
-Fills b (receive n input k) A a = (ofStream n ≡ A) × (a ≡ receiver (domainAt b A) (n % 4) input)
-Fills b (takeRead n) A a = ⊥
-Fills b (live d) A a = ⊥
-Fills b (free d) A a = ⊥
+-- the one writer, of one domain, that a call may fill, made on a device b with these rooms: a receive on stream n fills its receiver, an
+-- offer that of the pending bytes, those that the stream holds and then its own, and no other call fills any
+abbrev pub Fills : Rnic → List ℕ → Call → ℕ → Writer → Type 0
+Fills b rooms (openStream n crc) A a = ⊥
+Fills b rooms (closeStream n) A a = ⊥
+Fills b rooms (register w key base len place rights) A a = ⊥
+Fills b rooms (dropWindow w) A a = ⊥
+Fills b rooms (post n start len) A a = ⊥
+Fills b rooms (receive n input k) A a = (ofStream n ≡ A) × (a ≡ receiver (domainAt b A) (n % 4) input)
+Fills b rooms (offer n input k m) A a = (ofStream n ≡ A) × (a ≡ receiver (domainAt b A) (n % 4) (heldBytes b n rooms ++ input))
+Fills b rooms (takeRead n) A a = ⊥
+Fills b rooms (live d) A a = ⊥
+Fills b rooms (free d) A a = ⊥

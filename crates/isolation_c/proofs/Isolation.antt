@@ -5,16 +5,17 @@ use mathlib.Core.Logic.{_≢_}
 use mathlib.Core.Path.{_≡_, sym, ap, _∙_}
 use mathlib.Core.List.{List, map}
 use denote.Ref.{now}
+use Rattle.rnic.specs.Offer.{roomsBytes}
 use Rattle.block.specs.Device.{rnicAt}
 use Rattle.isolation.specs.Book.{View, Opening, bookTrace, bookView, firstBytes, firstView}
 use Rattle.isolation.specs.Number.{Numbered, replyWords}
 use Rattle.isolation.proofs.Isolation as by-number
 use Rattle.isolation_c.specs.Request.{Request}
-use Rattle.isolation_c.proofs.Calls.{Host, CallStep, ReceiveStep, Opened, worldOf, viewIn}
+use Rattle.isolation_c.proofs.Calls.{Host, CallStep, ReceiveStep, OfferStep, Opened, worldOf, viewIn}
 use Rattle.isolation_c.proofs.Runs.{Run, OpenedRun, callsOf, trace, views, callsUpTo}
 use Rattle.isolation_c.proofs.Mapped.{mapped, mapped-opened, calls-same, trace-same, views-same, calls-up-to-same}
 use Rattle.isolation_c.proofs.Openings.{opening-slice}
-use Rattle.isolation_c.proofs.Steps.{call-other, receive-other}
+use Rattle.isolation_c.proofs.Steps.{call-other, receive-other, offer-other}
 
 -- a run is as A's book says, v being A's first view
 pub record ByBook (A : ℕ) (v : View) {h h₁ : Host} {cs : List Request} (r : Run h cs h₁) : Type 0 where
@@ -45,15 +46,15 @@ by-book {A} {v} r b = record {
 
 -- Demand 3 of the C entries: any two runs of them in any mixture, from the same opening numbers, that agree on the bytes of A's part and
 -- on A's calls are the same for A, whichever entry made each call. Either is as A's book says, which is fed the opening, those bytes
--- and those calls alone
+-- and those calls alone. They may differ in all of the second slice
 pub two-nights-in-c :
     (A : ℕ) → A < 4 →
-    (o : Opening) (mem mem′ : List ℕ) (r : OpenedRun o mem) (q : OpenedRun o mem′) →
+    (o : Opening) (mem mem′ rooms rooms′ : List ℕ) (r : OpenedRun o mem rooms) (q : OpenedRun o mem′ rooms′) →
     firstBytes A o mem ≡ firstBytes A o mem′ → callsOf A (r .run) ≡ callsOf A (q .run) →
     Isolated A (firstView A o (firstBytes A o mem)) (r .run) (q .run)
-two-nights-in-c A hA o mem mem′ r q b m =
+two-nights-in-c A hA o mem mem′ rooms rooms′ r q b m =
     let n = sym (calls-same A (r .run)) ∙ m ∙ calls-same A (q .run) in
-    let x = by-number.two-nights-by-number A hA o mem mem′ (mapped-opened o mem r) (mapped-opened o mem′ q) b n in
+    let x = by-number.two-nights-by-number A hA o mem mem′ rooms rooms′ (mapped-opened o mem rooms r) (mapped-opened o mem′ rooms′ q) b n in
     record {
       same = trace-same A (r .run) ∙ x .same ∙ sym (trace-same A (q .run));
       first = by-book (r .run) (x .first);
@@ -72,6 +73,13 @@ pub other-slice-kept-by-receive :
     (s .lent .after ≡ now (s .lent .slice)) × (worldOf h₁ ≡ worldOf h)
 other-slice-kept-by-receive = receive-other
 
+-- an offer that is lent another length of either slice leaves both, and the device, the store and the rooms
+pub other-slice-kept-by-offer :
+    (h : Host) (n : ℕ) (input : List ℕ) (k m : ℕ) (x : List ℕ) (h₁ : Host) (s : OfferStep h n input k m x h₁) →
+    ((k ≡ rnicAt (h .words) .len) × (m ≡ roomsBytes) → ⊥) →
+    (s .lent .after ≡ now (s .lent .slice)) × (s .second .after ≡ now (s .second .slice)) × (worldOf h₁ ≡ worldOf h)
+other-slice-kept-by-offer = offer-other
+
 -- and so does the slice that is lent to the opening, of any length
-pub opening-slice-kept : (o : Opening) (mem : List ℕ) (h : Host) (s : Opened o mem h) → s .after ≡ now (s .slice)
+pub opening-slice-kept : (o : Opening) (mem rooms : List ℕ) (h : Host) (s : Opened o mem rooms h) → s .after ≡ now (s .slice)
 opening-slice-kept = opening-slice

@@ -1,6 +1,7 @@
 pub mod Apart
 pub mod Calls
 pub mod Entries
+pub mod Held
 pub mod Isolation
 pub mod Mapped
 pub mod Openings

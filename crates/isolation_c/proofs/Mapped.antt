@@ -1,4 +1,4 @@
--- A run of the C entries is a run of calls by number of the crate `isolation`, and shows A the same.
+-- A run of the C entries is a run of calls by number and of offers of the crate `isolation`, and shows A the same.
 use Prim.Native.Nat.{ℕ}
 use mathlib.Core.Path.{_≡_, refl}
 use mathlib.Core.List.{List, [], _∷_, map}
@@ -43,10 +43,10 @@ module _ (A : ℕ) where
       put-first [] ∷ map put-first (calls-up-to-same r i)
 
 -- a whole run
-abbrev pub mapped-opened : (o : Opening) (mem : List ℕ) → OpenedRun o mem → by-number.OpenedRun numbers o mem
-mapped-opened o mem r = record {
+abbrev pub mapped-opened : (o : Opening) (mem rooms : List ℕ) → OpenedRun o mem rooms → by-number.OpenedRun numbers o mem rooms
+mapped-opened o mem rooms r = record {
   start = worldOf (r .start);
-  opened = opened o mem (r .start) (r .opened);
+  opened = opened o mem rooms (r .start) (r .opened);
   calls = map numbered (r .requests);
   end = worldOf (r .end);
   run = mapped (r .run);

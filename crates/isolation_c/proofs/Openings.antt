@@ -22,7 +22,7 @@ done-same : (x : Outcome) → saysDone (outcomeWords x) ≡ accepted x
 done-same Done = refl
 done-same (NotDone n) = refl
 
-module _ (o : Opening) (mem : List ℕ) (h : Host) (s : Opened o mem h) where
+module _ (o : Opening) (mem rooms : List ℕ) (h : Host) (s : Opened o mem rooms h) where
   abbrev result : RnicDone
   result = openedRnic (o .len) (o .s₀) (o .e₀) (o .s₁) (o .e₁) (o .s₂) (o .e₂) (o .s₃) (o .e₃)
 
@@ -38,12 +38,13 @@ module _ (o : Opening) (mem : List ℕ) (h : Host) (s : Opened o mem h) where
   unfolding called
   opened-done = ap saysDone (s .contract .1 ∙ (λ i. calledOn (s .args-are i) .words)) ∙ done-same (result .outcome)
 
-  pub opened : WorldOpened o mem (worldOf h)
+  pub opened : WorldOpened o mem rooms (worldOf h)
   opened = (
     result,
     refl,
     (λ e. s .long (opened-done ∙ e)),
-    (λ i. record { dev = opened-rnic i; mem = (s .store ∙ ap (λ (t : Bool). pick t mem []) opened-done) i }),
+    s .roomy,
+    (λ i. record { dev = opened-rnic i; mem = (s .store ∙ ap (λ (t : Bool). pick t mem []) opened-done) i; rooms = s .second i }),
   )
 
   -- the slice lent to it

@@ -27,6 +27,10 @@ coveredOf n = 2 + n + padOf n
 abbrev pub totalOf : ℕ → ℕ
 totalOf n = coveredOf n + 4
 
+-- how many bytes of an FPDU that begins with length n say what it is: all of it, or the two of the length where that is over the limit
+abbrev pub neededFor : ℕ → ℕ
+neededFor n = pick (ltb maxUlpdu n) 2 (totalOf n)
+
 -- "ULPDU length (2 bytes), ULPDU, pad": pad is written zero
 unfoldable pub covered : List ℕ → List ℕ
 covered u = be16 (length u) ++ (u ++ replicate (padOf (length u)) 0)

@@ -19,7 +19,7 @@ ghost use Prim.Native.Nat.{_+_, _^_, _≤_, _<_};
 ghost use lib.ListN.{length};
 ghost use Rattle.crc32c.specs.Crc.{crcOf};
 ghost use Rattle.wire.specs.Wire.{put};
-ghost use Rattle.mpa.specs.Fpdu.{padOf, coveredOf, totalOf, covered, fpduOf, fpduWritten, fpduOut, crcRight, fpduReadOf, fpduRead};
+ghost use Rattle.mpa.specs.Fpdu.{maxUlpdu, padOf, coveredOf, totalOf, neededFor, covered, fpduOf, fpduWritten, fpduOut, crcRight, fpduReadOf, fpduRead};
 
 // The longest ULPDU.
 pub const MAX_ULPDU: usize = 2048;
@@ -46,6 +46,17 @@ fn total_length(n: usize) -> usize
     ensures { λ r. ⌜ r ≡ totalOf n ⌝ }
 {
     covered_length(n) + 4
+}
+
+// How many bytes of an FPDU that begins with this length say what it is: all of it, or the two of the
+// length where that is over the limit.
+pub fn needed(len: usize) -> usize
+    ensures { λ r. ⌜ (r ≡ neededFor len) × (r ≤ totalOf maxUlpdu) × (2 ≤ r) ⌝ }
+{
+    if MAX_ULPDU < len {
+        return 2;
+    }
+    total_length(len)
 }
 
 // Writes length, ULPDU and pad to the start of out.

@@ -7,10 +7,11 @@ use Rattle.memory.specs.declared.part.Part.{Part}
 use Rattle.memory.specs.declared.part.Outcome.the-variants.{Done, Refused}
 use Rattle.ddp.specs.declared.refusal.Refusal.{Refusal}
 use Rattle.rdmap.specs.Phase.{phaseOf, endedPhase, isClosed, readiness}
-use Rattle.rdmap.specs.Framing.{noFraming, newFraming}
+use Rattle.rdmap.specs.Framing.{noFraming, newFraming, framingHolding}
 use Rattle.rdmap.specs.Sends.{emptySends, postedSends, sendingSends, sentSends}
 use Rattle.rdmap.specs.Read.{emptyReads, firstRead, queuedReads, poppedReads}
 use Rattle.rdmap.specs.Terminates.{emptyTerminates, risenTerminates}
+use Rattle.rdmap.specs.declared.framing.Framing.{Framing}
 use Rattle.rdmap.specs.declared.phase.Phase.{Phase}
 use Rattle.rdmap.specs.declared.phase.Readiness.{Readiness}
 use Rattle.rdmap.specs.declared.phase.Readiness.the-variants.{Ready, NotReady}
@@ -43,6 +44,13 @@ withSends s sends = record { phase = s .phase; framing = s .framing; sends = sen
 
 abbrev pub withReads : Stream → Reads → Stream
 withReads s reads = record { phase = s .phase; framing = s .framing; sends = s .sends; reads = reads; terminates = s .terminates }
+
+abbrev pub withFraming : Stream → Framing → Stream
+withFraming s framing = record { phase = s .phase; framing = framing; sends = s .sends; reads = s .reads; terminates = s .terminates }
+
+-- the stream, holding n bytes of an FPDU that is not complete
+abbrev pub holding : Stream → ℕ → Stream
+holding s n = withFraming s (framingHolding (s .framing) n)
 
 -- ---- calls
 

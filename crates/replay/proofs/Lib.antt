@@ -1,4 +1,5 @@
 pub mod Answers
 pub mod Gathered
 pub mod Lines
+pub mod Offers
 pub mod Sent

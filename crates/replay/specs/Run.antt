@@ -7,11 +7,14 @@ use lib.ListN.{length, take, drop}
 use lib.Dec.{leb}
 use Rattle.wire.specs.Wire.{pick, both, put}
 use Rattle.rnic.specs.Rnic.{openedRnic}
+use Rattle.rnic.specs.Offer.{rnicOfferedStore, rnicOfferedRooms}
 use Rattle.rnic.specs.declared.Rnic.{Rnic}
 use Rattle.block.specs.Device.{rnicAt}
-use Rattle.calls.specs.Call.{called, calledStore}
+use Rattle.calls.specs.Call.{called, calledStore, calledOffer}
 use Rattle.command.specs.Args.{lineWords, wordOf}
 use Rattle.sending.specs.Sending.{isOrder, messageAfter, heldAfter}
+use Rattle.offering.specs.Offering.{Offering, isOffering, offeringOf}
+use Rattle.offering.specs.Offering.Offering.{offer, holds, bad}
 use Rattle.request.specs.Request.{Request, requestOf}
 use Rattle.request.specs.Request.Request.{call, fill, text}
 
@@ -57,3 +60,56 @@ lineMessage w size hex room buffer count = pick (lineSends buffer count) (messag
 
 abbrev pub lineHeld : List ℕ → ℕ → List ℕ → ℕ → List ℕ
 lineHeld held hex buffer count = pick (lineSends buffer count) (heldAfter held hex (take count buffer)) held
+
+-- ---- offers
+
+-- whether a line of `count` bytes is a command on offers, good or bad
+abbrev pub lineOffers : List ℕ → ℕ → Bool
+lineOffers buffer count = both (leb count (length buffer)) (isOffering (wordOf (lineWords (take count buffer)) 0))
+
+-- the device after what such a line asks: an offer is made, and is lent the first bytes of the store and of the second slice
+abbrev pub offeredRnic : Rnic → Offering → List ℕ → List ℕ → Rnic
+offeredRnic d (offer stream bytes lent held) store rooms =
+    calledOffer d (min lent (length store)) stream (take (min held (length rooms)) rooms) bytes .rnic
+offeredRnic d (holds stream) store rooms = d
+offeredRnic d bad store rooms = d
+
+abbrev pub offeredState : State → Offering → List ℕ → List ℕ → State
+offeredState s o store rooms = record { kept = s .kept; rnic = offeredRnic (s .rnic) o store rooms }
+
+-- the store, of which an offer writes none of the bytes that it was not lent
+abbrev pub offeredStore : Rnic → Offering → List ℕ → List ℕ → List ℕ
+offeredStore d (offer stream bytes lent held) store rooms =
+    rnicOfferedStore d stream (take (min held (length rooms)) rooms) bytes (take (min lent (length store)) store) ++ drop (min lent (length store)) store
+offeredStore d (holds stream) store rooms = store
+offeredStore d bad store rooms = store
+
+-- and the second slice, in the same way
+abbrev pub offeredRooms : Rnic → Offering → List ℕ → List ℕ → List ℕ
+offeredRooms d (offer stream bytes lent held) store rooms =
+    rnicOfferedRooms d (min lent (length store)) stream (take (min held (length rooms)) rooms) bytes ++ drop (min held (length rooms)) rooms
+offeredRooms d (holds stream) store rooms = rooms
+offeredRooms d bad store rooms = rooms
+
+-- what such a line asks, with so much room for its bytes
+abbrev pub offeringIn : State → ℕ → List ℕ → List ℕ → List ℕ → ℕ → Offering
+offeringIn s room store rooms buffer count = offeringOf (s .kept) (length store) (length rooms) room (take count buffer)
+
+-- ---- a line of `count` bytes, which a buffer starts with
+
+-- what the run holds then
+abbrev pub lineState : State → ℕ → List ℕ → List ℕ → List ℕ → ℕ → State
+lineState s room store rooms buffer count =
+    pick (lineOffers buffer count) (offeredState s (offeringIn s room store rooms buffer count) store rooms)
+    (stateAfter s (lineRequest (s .kept) room (length store) buffer count) store)
+
+-- the store
+abbrev pub lineStore : State → ℕ → List ℕ → List ℕ → List ℕ → ℕ → List ℕ
+lineStore s room store rooms buffer count =
+    pick (lineOffers buffer count) (offeredStore (s .rnic) (offeringIn s room store rooms buffer count) store rooms)
+    (storeThen s (lineRequest (s .kept) room (length store) buffer count) store)
+
+-- and the second slice: no line but an offer touches it, nor does `open`
+abbrev pub lineRooms : State → ℕ → List ℕ → List ℕ → List ℕ → ℕ → List ℕ
+lineRooms s room store rooms buffer count =
+    pick (lineOffers buffer count) (offeredRooms (s .rnic) (offeringIn s room store rooms buffer count) store rooms) rooms

@@ -57,6 +57,7 @@ fn take_chunk(
     bytes: &mut [u8],
     frame: &mut [u8],
     store: &mut [u8],
+    rooms: &mut [u8; 32896],
     text: &mut [u8],
     out: &mut [u8],
 ) -> Reached {
@@ -83,6 +84,7 @@ fn take_chunk(
             bytes,
             frame,
             store,
+            rooms,
             text,
             out,
         );
@@ -118,6 +120,7 @@ pub fn run_script(
     bytes: &mut [u8],
     frame: &mut [u8],
     store: &mut [u8],
+    rooms: &mut [u8; 32896],
     text: &mut [u8],
     out: &mut [u8],
 ) {
@@ -143,6 +146,7 @@ pub fn run_script(
                 bytes,
                 frame,
                 store,
+                rooms,
                 text,
                 out,
             );
@@ -158,6 +162,7 @@ pub fn run_script(
             bytes,
             frame,
             store,
+            rooms,
             text,
             out,
         );
@@ -175,6 +180,7 @@ fn run_rest(
     bytes: &mut [u8],
     frame: &mut [u8],
     store: &mut [u8],
+    rooms: &mut [u8; 32896],
     text: &mut [u8],
     out: &mut [u8],
 ) {
@@ -194,6 +200,7 @@ fn run_rest(
             bytes,
             frame,
             store,
+            rooms,
             text,
             out,
         );

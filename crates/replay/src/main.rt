@@ -1,13 +1,14 @@
 // Runs a script of commands from standard input, and writes one line for each to standard output.
 //
 // `input` reads the script and parts it into lines, `run` runs one of them, `output` writes the answers.
-// What a line asks is in the crate `request`, what a call is answered in `report`, and the commands on
-// messages in `sending`. Nothing grows
-// with the script: the device, the store and every buffer stand in `main` and are lent from there.
+// What a line asks is in the crate `request`, what a call is answered in `report`, the commands on messages
+// in `sending`, and those on offers in `offering`, which `offer` runs. Nothing grows with the script: the
+// device, the store, the second slice and every buffer stand in `main` and are lent from there.
 ghost use mathlib.Core.Path.{_≡_};
 ghost use lib.ListN.{length};
 
 mod input;
+mod offer;
 mod output;
 mod run;
 
@@ -18,6 +19,13 @@ fn new_store() -> [u8; 1048576]
     [0; 1048576]
 }
 
+// The second slice, of zeros: room for the longest FPDU, of 2,056 bytes, for each of the sixteen streams.
+fn new_rooms() -> [u8; 32896]
+    ensures { λ r. ⌜ 32896 ≡ length r ⌝ }
+{
+    [0; 32896]
+}
+
 // Room for the longest answer, that of `bytes` for the whole store: two digits for each byte, and the
 // word.
 fn new_text() -> [u8; 2097184]
@@ -26,9 +34,9 @@ fn new_text() -> [u8; 2097184]
     [0; 2097184]
 }
 
-// Lends the device's words, the message begun last, the store and the buffers. `bytes` holds what the hex
-// of a line stands for, less than half of the line, `held` what that of the message did; `out` gathers
-// answers.
+// Lends the device's words, the message begun last, the store, the second slice and the buffers. `bytes`
+// holds what the hex of a line stands for, less than half of the line, `held` what that of the message
+// did; `out` gathers answers.
 fn main() {
     let mut device = [0u64; 933];
     let mut message = sending::no_message();
@@ -38,6 +46,7 @@ fn main() {
     let mut bytes = [0u8; 32768];
     let mut frame = io::large_buffer();
     let mut store = new_store();
+    let mut rooms = new_rooms();
     let mut text = new_text();
     let mut out = io::large_buffer();
     input::run_script(
@@ -49,6 +58,7 @@ fn main() {
         &mut bytes,
         &mut frame,
         &mut store,
+        &mut rooms,
         &mut text,
         &mut out,
     );

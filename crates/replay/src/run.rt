@@ -1,4 +1,6 @@
 // One line of the script: it is run, and its answer is gathered.
+use super::offer::offers;
+use super::offer::run_offering;
 use super::output::print;
 use super::output::print_answer;
 use command::answer::bad;
@@ -21,6 +23,9 @@ ghost use Rattle.replay.specs.Run.{
   stateAt,
   stateAfter,
   storeThen,
+  lineState,
+  lineStore,
+  lineRooms,
   lineMessage,
   lineHeld,
 };
@@ -115,10 +120,10 @@ fn run_asked(
     }
 }
 
-// Runs a line of `count` bytes, which the buffer `line` starts with unless the line is too long. A command
-// on messages is run on the message begun last, its words and its bytes in front of `held`, and on
-// nothing else.
-pub fn run_line(
+// Runs a line of `count` bytes that is no command on offers, which the buffer `line` starts with unless the
+// line is too long. A command on messages is run on the message begun last, its words and its bytes in
+// front of `held`, and on nothing else.
+fn run_other(
     run: Run,
     device: &mut [u64; 933],
     message: &mut [u64; 9],
@@ -150,4 +155,46 @@ pub fn run_line(
         };
     }
     run_asked(run, device, line, count, bytes, frame, store, text, out)
+}
+
+// Runs a line of `count` bytes, which the buffer `line` starts with unless the line is too long. A command
+// on offers is run on the device, the store and the second slice, `rooms`, which no other line touches.
+pub fn run_line(
+    run: Run,
+    device: &mut [u64; 933],
+    message: &mut [u64; 9],
+    held: &mut [u8],
+    line: &[u8],
+    count: usize,
+    bytes: &mut [u8],
+    frame: &mut [u8],
+    store: &mut [u8],
+    rooms: &mut [u8; 32896],
+    text: &mut [u8],
+    out: &mut [u8],
+) -> Run
+    requires { ⌜ run .gathered ≤ length (now out) ⌝ }
+    ensures within { λ r. ⌜ r .gathered ≤ length (now (out .entry)) ⌝ }
+    ensures state { λ r. ⌜ stateAt (r .kept) (now (device .exit)) ≡ lineState (stateAt (run .kept) (now (device .entry))) (length (now (bytes .entry))) (now (store .entry)) (now (rooms .entry)) (now (line .entry)) count ⌝ }
+    ensures rest { λ r. ⌜ now (store .exit) ≡ lineStore (stateAt (run .kept) (now (device .entry))) (length (now (bytes .entry))) (now (store .entry)) (now (rooms .entry)) (now (line .entry)) count ⌝ }
+    ensures rooms { λ r. ⌜ now (rooms .exit) ≡ lineRooms (stateAt (run .kept) (now (device .entry))) (length (now (bytes .entry))) (now (store .entry)) (now (rooms .entry)) (now (line .entry)) count ⌝ }
+    ensures message { λ r. ⌜ now (message .exit) ≡ lineMessage (now (message .entry)) (length (now (held .entry))) (length (now (bytes .entry))) (length (now (frame .entry))) (now (line .entry)) count ⌝ }
+    ensures held { λ r. ⌜ now (held .exit) ≡ lineHeld (now (held .entry)) (length (now (bytes .entry))) (now (line .entry)) count ⌝ }
+{
+    if offers(line, count) {
+        return run_offering(run, device, &line[..count], bytes, store, rooms, text, out);
+    }
+    run_other(
+        run,
+        device,
+        message,
+        held,
+        line,
+        count,
+        bytes,
+        frame,
+        store,
+        text,
+        out,
+    )
 }

@@ -1,5 +1,6 @@
 // What a script's line is answered where it is a call of the device: the words of the call's answer, as
-// specs/Words.antt of the crate `calls` has them, put as text into a lent buffer. Read `tell` first.
+// specs/Words.antt of the crate `calls` has them, put as text into a lent buffer. Read `tell` first, then
+// `tell_offer`.
 use command::answer::first;
 use command::answer::then_number;
 use script::hex::put_byte_hex;
@@ -57,12 +58,12 @@ fn then_event(
     then_words(answer, from, end, text, next)
 }
 
-// `taken TOTAL` with what the FPDU reports, by the kind: 6 nothing, 7 a Send, 8 a Send that
-// invalidated an STag, else a Terminate.
-fn taken(kind: u64, answer: [u64; 8], text: &mut [u8]) -> usize
+// Puts what the FPDU reports, by the kind, and answers the place after it: 6 nothing, 7 a Send, 8 a Send
+// that invalidated an STag, else a Terminate.
+fn then_report(kind: u64, answer: [u64; 8], text: &mut [u8], at: usize) -> usize
+    requires { ⌜ at ≤ length (now text) ⌝ }
     ensures { λ r. ⌜ r ≤ length (now (text .entry)) ⌝ }
 {
-    let at = told(b"taken", answer, 2, text);
     match kind {
         6 => at,
         7 => then_event(b"send", answer, 2, 5, text, at),
@@ -72,6 +73,31 @@ fn taken(kind: u64, answer: [u64; 8], text: &mut [u8]) -> usize
         }
         _ => then_event(b"terminate", answer, 2, 5, text, at),
     }
+}
+
+// `taken TOTAL` with what the FPDU reports.
+fn taken(kind: u64, answer: [u64; 8], text: &mut [u8]) -> usize
+    ensures { λ r. ⌜ r ≤ length (now (text .entry)) ⌝ }
+{
+    let at = told(b"taken", answer, 2, text);
+    then_report(kind, answer, text, at)
+}
+
+// `took K`: how many bytes of this call an offer took.
+fn took(answer: [u64; 8], text: &mut [u8]) -> usize
+    ensures { λ r. ⌜ r ≤ length (now (text .entry)) ⌝ }
+{
+    let at = first(b"took", text);
+    then_number(answer[6], text, at)
+}
+
+// `took K taken TOTAL` with what the FPDU reports that these bytes complete.
+fn completed(kind: u64, answer: [u64; 8], text: &mut [u8]) -> usize
+    ensures { λ r. ⌜ r ≤ length (now (text .entry)) ⌝ }
+{
+    let at = took(answer, text);
+    let next = then_event(b"taken", answer, 1, 2, text, at);
+    then_report(kind, answer, text, next)
 }
 
 // Puts `/` and a number, and answers the place after them.
@@ -137,4 +163,25 @@ pub fn tell(number: u64, answer: [u64; 8], text: &mut [u8]) -> usize
         10 => ended(answer, text),
         _ => taken(kind, answer, text),
     }
+}
+
+// What an offer is answered, of its answer's words; the first word is the kind.
+pub fn tell_offer(answer: [u64; 8], text: &mut [u8]) -> usize
+    ensures { λ r. ⌜ r ≤ length (now (text .entry)) ⌝ }
+{
+    let kind = answer[0];
+    match kind {
+        0 => told(b"refused", answer, 2, text),
+        10 => ended(answer, text),
+        11 => took(answer, text),
+        _ => completed(kind, answer, text),
+    }
+}
+
+// `held K`: how many bytes a stream holds.
+pub fn tell_held(n: u64, text: &mut [u8]) -> usize
+    ensures { λ r. ⌜ r ≤ length (now (text .entry)) ⌝ }
+{
+    let at = first(b"held", text);
+    then_number(n, text, at)
 }

@@ -12,9 +12,10 @@ use Rattle.memory.specs.declared.part.Outcome.{Outcome}
 use Rattle.memory.specs.declared.part.Outcome.the-variants.{Done, Refused as NotDone}
 use Rattle.rdmap.specs.declared.stream.CloseAnswer.the-variants.{Refused as NotClosed}
 use Rattle.rdmap.specs.declared.stream.TakeAnswer.the-variants.{Refused as NotTaken}
-use Rattle.domain.specs.Domain.{newDomain, domainOpened, domainClosed, domainPosted, domainTaken, domainRegistered, domainDropped, domainReceived, domainReceivedBytes}
+use Rattle.domain.specs.Domain.{newDomain, domainOpened, domainClosed, domainPosted, domainTaken, domainRegistered, domainDropped}
 use Rattle.domain.specs.declared.Answer.the-variants.{Refused}
 use Rattle.domain.specs.declared.Domain.{Domain}
+use Rattle.holding.specs.Offer.{domainReceives, domainReceivesBytes}
 use Rattle.rnic.specs.declared.Rnic.{Rnic}
 use Rattle.rnic.specs.declared.RnicDone.{RnicDone}
 use Rattle.rnic.specs.declared.RnicClosed.{RnicClosed}
@@ -107,15 +108,15 @@ unfoldable pub receivedOwned : Rnic → ℕ → ℕ → List ℕ → RnicReceive
 receivedOwned b size n input =
     pick (partFits (domainAt b (n / 4) .part) size)
     (record {
-      answer = domainReceived (domainAt b (n / 4)) (n / 4) (n % 4) input .answer;
-      rnic = withDomain b (n / 4) (domainReceived (domainAt b (n / 4)) (n / 4) (n % 4) input .domain);
+      answer = domainReceives (domainAt b (n / 4)) (n / 4) (n % 4) input .answer;
+      rnic = withDomain b (n / 4) (domainReceives (domainAt b (n / 4)) (n / 4) (n % 4) input .domain);
     })
     (record { answer = Refused 9; rnic = b })
 
 unfoldable pub receivedOwnedStore : Rnic → ℕ → List ℕ → List ℕ → List ℕ
 receivedOwnedStore b n input mem =
     pick (partFits (domainAt b (n / 4) .part) (length mem))
-    (withBytes (domainAt b (n / 4)) mem (domainReceivedBytes (domainAt b (n / 4)) (n / 4) (n % 4) input (bytesOf (domainAt b (n / 4)) mem)))
+    (withBytes (domainAt b (n / 4)) mem (domainReceivesBytes (domainAt b (n / 4)) (n / 4) (n % 4) input (bytesOf (domainAt b (n / 4)) mem)))
     mem
 
 -- receive is lent a store of some length: 1 the stream's number, 2 "lent store's length is not that of opening"

@@ -348,7 +348,7 @@ fn receive_owned(b: Rnic, store: &mut [u8], stream: u64, bytes: &[u8]) -> RnicRe
     if fits_in(part, all) {
         let start = part.start as usize;
         let end = part.end as usize;
-        let done = domain::receive(dom, number, &mut store[start..end], stream % 4, bytes);
+        let done = holding::receive(dom, number, &mut store[start..end], stream % 4, bytes);
         let answer = done.answer;
         let rnic = with_domain(b, owner, done.domain);
         return RnicReceived { answer, rnic };

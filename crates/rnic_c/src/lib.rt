@@ -6,7 +6,8 @@
 // include/rnic.h has both for C. `message` has the writer for messages.
 ghost use mathlib.Core.Path.{_≡_};
 ghost use lib.ListN.{length};
-ghost use Rattle.calls.specs.Call.{called, calledStore, calledReceive};
+ghost use Rattle.calls.specs.Call.{called, calledStore, calledReceive, calledOffer};
+ghost use Rattle.rnic.specs.Offer.{rnicOfferedStore, rnicOfferedRooms, heldCount};
 ghost use Rattle.rnic.specs.Rnic.{rnicReceivedStore};
 ghost use Rattle.block.specs.Device.{rnicAt};
 ghost use Rattle.crc32c.specs.Crc.{crcRun, crcOf};
@@ -14,9 +15,12 @@ ghost use Rattle.crc32c.specs.Shift.{joined};
 use calls::words::answer_words;
 use calls::words::close_words;
 use calls::words::count_words;
+use calls::words::offer_words;
 use calls::words::outcome_words;
 use calls::words::take_words;
 use calls::words::words;
+use device::offer::held_count;
+use device::offer::offer;
 use device::opening::open;
 use device::receive::receive;
 use device::stream::close_stream;
@@ -98,6 +102,31 @@ pub extern "C" fn rnic_c_receive(
 {
     let done = receive(device, store, stream, bytes);
     *answer = answer_words(done);
+}
+
+// An offer: a receive of bytes that may be cut anywhere. Of an FPDU that is not complete the stream keeps the
+// bytes in its room, one of sixteen that the caller lends with the store.
+#[no_mangle]
+pub extern "C" fn rnic_c_offer(
+    device: &mut [u64; 933],
+    store: &mut [u8],
+    rooms: &mut [u8],
+    stream: u64,
+    bytes: &[u8],
+    answer: &mut [u64; 8],
+)
+    ensures { λ _. ⌜ (rnicAt (now (device .exit)) ≡ calledOffer (rnicAt (now (device .entry))) (length (now (store .entry))) stream (now (rooms .entry)) (now (bytes .entry)) .rnic) × (now (answer .exit) ≡ calledOffer (rnicAt (now (device .entry))) (length (now (store .entry))) stream (now (rooms .entry)) (now (bytes .entry)) .words) × (now (store .exit) ≡ rnicOfferedStore (rnicAt (now (device .entry))) stream (now (rooms .entry)) (now (bytes .entry)) (now (store .entry))) × (now (rooms .exit) ≡ rnicOfferedRooms (rnicAt (now (device .entry))) (length (now (store .entry))) stream (now (rooms .entry)) (now (bytes .entry))) ⌝ }
+{
+    let done = offer(device, store, rooms, stream, bytes);
+    *answer = offer_words(done);
+}
+
+// How many bytes of an FPDU that is not complete a stream holds; 0 of a number that is no stream's.
+#[no_mangle]
+pub extern "C" fn rnic_c_held(device: &[u64; 933], stream: u64) -> u32
+    ensures { λ r. ⌜ r ≡ heldCount (rnicAt (now (device .entry))) stream ⌝ }
+{
+    held_count(device, stream)
 }
 
 // The CRC-32C of bytes, by which a program can write frames of its own.

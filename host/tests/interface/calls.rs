@@ -1,6 +1,6 @@
 //! Calls one by one: the scope paper's log, and a message of each kind.
 
-use host::{Closed, Device, Error, Event, Fault, ReadRequest, Received, Window};
+use host::{Closed, Device, Error, Event, Fault, Offered, ReadRequest, Received, Rooms, Window};
 use host::{RIGHT_READ, RIGHT_WRITE};
 
 /// The Write of the paper's log.
@@ -150,4 +150,106 @@ fn sends_reads_and_a_terminate() {
     // A copy is a device of its own: its read still waits.
     let (buffers, reads) = (1, 1);
     assert_eq!(other.close_stream(4), Ok(Closed { buffers, reads }));
+}
+
+/// Gives an offer's answer that keeps so many bytes.
+fn kept(taken: usize) -> Result<Offered, Error> {
+    Ok(Offered::Kept { taken })
+}
+
+/// Gives an offer's answer that took an FPDU without an event.
+fn completed(taken: usize, total: usize) -> Result<Offered, Error> {
+    Ok(Offered::Taken {
+        taken,
+        total,
+        event: Event::None,
+    })
+}
+
+#[test]
+fn a_write_in_pieces() {
+    let (mut device, mut store) = night(RIGHT_WRITE);
+    let mut rooms = Rooms::new();
+    let two = [WRITE, WRITE].concat();
+    let mut offer = |bytes: &[u8]| device.offer(&mut store, &mut rooms, 4, bytes);
+    assert_eq!(offer(&[]), kept(0));
+    assert_eq!(offer(&two[..1]), kept(1));
+    assert_eq!(offer(&[]), kept(0));
+    assert_eq!(offer(&two[1..20]), kept(19));
+    assert_eq!(offer(&two[20..]), completed(4, 24));
+    assert_eq!(offer(&two[24..]), completed(24, 24));
+    assert_eq!(offer(&two[..3]), kept(3));
+    assert_eq!(rooms[4 * 2056..4 * 2056 + 3], WRITE[..3]);
+    assert_eq!(store[1024..1028], [0xDE, 0xAD, 0xBE, 0xEF]);
+    assert_eq!(
+        [3, 4, 5, 16].map(|stream| device.held(stream)),
+        [0, 3, 0, 0]
+    );
+}
+
+#[test]
+fn offers_refused() {
+    let (mut device, mut store) = night(RIGHT_WRITE);
+    let mut rooms = Rooms::default();
+    let refused = |number| Err(Error::Refused(number));
+    let kept_first = device.offer(&mut store, &mut rooms, 4, &WRITE[..23]);
+    assert_eq!(kept_first, kept(23));
+    assert_eq!(
+        device.receive(&mut store, 4, &WRITE),
+        Err(Error::Refused(16))
+    );
+    let before = (device.clone(), rooms.to_vec());
+    let mut lent = [&rooms[..], &[0; 1]].concat();
+    for (stream, lent_store, lent_rooms, number) in [
+        (16, 0, 0, 1),
+        (4, 4095, 32_896, 2),
+        (4, 4096, 32_895, 2),
+        (4, 4096, 32_897, 2),
+        (0, 4096, 0, 2),
+        (0, 4096, 32_896, 3),
+    ] {
+        let (store, rooms) = (&mut store[..lent_store], &mut lent[..lent_rooms]);
+        let answer = device.offer(store, rooms, stream, &WRITE[23..]);
+        assert_eq!(answer, refused(number), "{stream}");
+        assert_eq!(device.held(4), 23);
+    }
+    assert!(before.0 == device && before.1 == lent[..32_896]);
+    let answer = device.offer(&mut store, &mut rooms, 4, &WRITE[23..]);
+    assert_eq!(answer, completed(1, 24));
+    assert_eq!(device.receive(&mut store, 4, &WRITE), taken(24));
+}
+
+#[test]
+fn what_ends_a_stream_empties_it() {
+    let (mut device, mut store) = night(RIGHT_WRITE);
+    let mut rooms = Rooms::new();
+    let mut outside = WRITE;
+    outside[15] = 1;
+    let terminate = untagged(7, 2, &[0x12, 0x34, 0, 0]);
+    let long = [8, 1, 0, 0];
+    for (bytes, cut, number) in [(&outside[..], 23, 27), (&terminate, 9, 0), (&long, 1, 20)] {
+        let answer = device.offer(&mut store, &mut rooms, 4, &bytes[..cut]);
+        assert_eq!(answer, kept(cut));
+        let answer = device.offer(&mut store, &mut rooms, 4, &bytes[cut..]);
+        match answer.unwrap() {
+            Offered::Ended(fault) => assert_eq!(fault.number, number),
+            Offered::Taken { taken, event, .. } => {
+                let (layer, etype, code) = (1, 2, 0x34);
+                assert_eq!(event, Event::Terminate { layer, etype, code });
+                assert_eq!((taken, number), (bytes.len() - cut, 0));
+            }
+            kept => panic!("{kept:?}"),
+        }
+        for bytes in [&WRITE[..], &WRITE[..1], &[]] {
+            let answer = device.offer(&mut store, &mut rooms, 4, bytes);
+            assert_eq!(answer, Err(Error::Refused(5)));
+            assert_eq!(device.held(4), 0);
+        }
+        device.close_stream(4).unwrap();
+        device.open_stream(4, false).unwrap();
+        assert_eq!(
+            device.offer(&mut store, &mut rooms, 4, &WRITE),
+            completed(24, 24)
+        );
+    }
 }

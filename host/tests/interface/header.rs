@@ -1,9 +1,12 @@
-//! The header and this crate say the same: the words of a device, the calls' numbers and the answers' kinds.
+//! The header and this crate say the same: the words of a device, the rooms, the calls' numbers and the answers' kinds.
 
 use std::fs;
 use std::path::Path;
 
-use host::raw::{call, kind, written, Arguments, Rnic, RnicMessage, Words, Written, DEVICE_WORDS};
+use host::raw::{call, kind, written, Arguments, Rnic, RnicMessage, Words, Written};
+use host::raw::{DEVICE_WORDS, ROOM, ROOMS};
+use oracle::mpa::MAX_FPDU;
+use oracle::state::HELD;
 
 /// Reads the header.
 pub fn header() -> String {
@@ -39,6 +42,10 @@ fn header_and_crate_agree() {
         let words = size / size_of::<u64>();
         assert_eq!(defined(&header, name), Some(words as u64), "{name}");
     }
+    assert_eq!(defined(&header, "RNIC_C_ROOM"), Some(ROOM as u64));
+    assert_eq!(defined(&header, "RNIC_C_ROOMS"), Some(ROOMS as u64));
+    assert_eq!((ROOM, ROOMS), (MAX_FPDU, HELD));
+    assert_eq!(defined(&header, "RNIC_C_OFFER_TAKEN"), Some(6));
     assert_eq!(size_of::<Rnic>(), size_of::<[u64; DEVICE_WORDS]>());
     assert_eq!(align_of::<Rnic>(), align_of::<u64>());
     for (name, number) in [
@@ -63,6 +70,7 @@ fn header_and_crate_agree() {
         ("SENT_INVALIDATING", kind::SENT_INVALIDATING),
         ("TERMINATED", kind::TERMINATED),
         ("ENDED", kind::ENDED),
+        ("KEPT", kind::KEPT),
         ("NOT_WRITTEN", written::NOT_WRITTEN),
         ("WROTE", written::WROTE),
         ("NO_MORE", written::NO_MORE),

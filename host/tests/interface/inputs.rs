@@ -1,7 +1,7 @@
 //! Numbers and bytes of every kind.
 
 use host::raw::Arguments;
-use host::{Device, Error, Window};
+use host::{Device, Error, Rooms, Window};
 use oracle::generate::prng::Prng;
 
 use crate::calls::WRITE;
@@ -37,7 +37,7 @@ fn numbers_of_no_call() {
 fn any_input() {
     let mut prng = Prng::new(2);
     let mut device = Device::new();
-    let mut store = vec![0; 100];
+    let (mut store, mut rooms) = (vec![0; 100], Rooms::new());
     for _ in 0..200_000 {
         let mut n = || match prng.below(4) {
             0 => prng.draw(),
@@ -59,6 +59,11 @@ fn any_input() {
             device.register(c, window).err(),
             device.post(d, e, f).err(),
             device.receive(&mut store, f, &bytes).err(),
+            device.offer(&mut store, &mut rooms, f, &bytes).err(),
+            device
+                .offer(&mut store, &mut rooms, a, &bytes[..length / 2])
+                .err(),
+            device.receive(&mut store, a, &bytes).err(),
             device.take(a).err(),
             device.live_count(c).err(),
             device.lowest_free(d).err(),
@@ -67,7 +72,11 @@ fn any_input() {
             device.open(b % 128, [0..a % 99, a..c, c..d, d..e]).err(),
         ];
         for answer in answers.into_iter().flatten() {
-            assert!(matches!(answer, Error::Refused(1..=11 | 19)), "{answer:?}");
+            assert!(
+                matches!(answer, Error::Refused(1..=11 | 16 | 19)),
+                "{answer:?}"
+            );
         }
+        assert!(device.held(d) <= 2056, "{d}");
     }
 }

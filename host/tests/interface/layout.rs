@@ -2,13 +2,13 @@
 //!
 //! Every call here is made through `Numbered`, which watches the words beside the device.
 
-use host::raw::{call, kind, Arguments, Words, DEVICE_WORDS};
+use host::raw::{call, kind, Arguments, Words, DEVICE_WORDS, ROOM};
 use host::Device;
 use oracle::generate::draft::{frame, Draft, Sink};
 use oracle::generate::prng::Prng;
 
 use crate::support::numbered::Numbered;
-use crate::support::{night, Program};
+use crate::support::{any_rooms, night, Program};
 
 /// The longest store, whose length fills its field further than any other.
 const STORE: usize = 1 << 24;
@@ -119,14 +119,15 @@ fn a_refused_opening_leaves_zeros() {
     }
 }
 
-/// From an opening on, the words turn on the calls alone: devices that held other words have the same after each call.
+/// From an opening on, the words turn on the calls alone: devices that held other words, lent rooms with other bytes, have the
+/// same after each call.
 #[test]
 fn the_calls_determine_every_word() {
     let mut prng = Prng::new(2);
     for seed in 1..11 {
         let mut programs = [(); 2].map(|()| {
             let device = Numbered::holding(&garbage(&mut prng));
-            Program::new(device, SMALL)
+            Program::within(device, SMALL, any_rooms(&mut prng))
         });
         let lines = night(SMALL, seed, 1000);
         for line in std::iter::once(OPENING.to_vec()).chain(lines) {
@@ -161,6 +162,50 @@ fn a_device_is_moved_as_words() {
     }
 }
 
+/// The words say how many bytes each stream holds and nothing else of them: however they came, and whatever they are. A stream
+/// that holds none again has the words that it had.
+#[test]
+fn held_bytes_are_counted_in_the_words() {
+    let mut prng = Prng::new(4);
+    let mut devices = [Numbered::new(), Numbered::new()];
+    let mut rooms = [(); 2].map(|()| any_rooms(&mut prng));
+    let mut store = vec![0; SMALL];
+    let opening = [4096, 0, 1024, 1024, 2048, 2048, 3072, 3072, 4096];
+    for device in &mut devices {
+        device.words(&mut [], call::OPEN, &opening, &[]);
+        for stream in 0..16 {
+            device.words(&mut [], call::OPEN_STREAM, &arguments(&[stream]), &[]);
+        }
+    }
+    let before = devices[0].device().to_vec();
+    for stream in 0..16 {
+        // The longest FPDU but for a byte, of which the length field alone is looked at.
+        let (mut bytes, mut other) = (prng.bytes(ROOM - 1), prng.bytes(ROOM - 1));
+        bytes[..2].copy_from_slice(&[8, 0]);
+        other[..2].copy_from_slice(&[8, 0]);
+        let answer = devices[0].offer(&mut store, &mut rooms[0], stream, &bytes);
+        let taken = ROOM as u64 - 1;
+        assert_eq!(answer, [kind::KEPT, 0, 0, 0, 0, 0, taken, 0]);
+        assert!(devices[0].device() != devices[1].device());
+        for piece in other.chunks(1 + stream as usize * 17) {
+            devices[1].offer(&mut store, &mut rooms[1], stream, piece);
+        }
+        assert!(devices[0].device() == devices[1].device(), "{stream}");
+        let first = stream as usize * ROOM;
+        assert!(rooms[0][first..first + ROOM - 1] == bytes);
+        assert!(rooms[1][first..first + ROOM - 1] == other);
+    }
+    for device in &mut devices {
+        for stream in 0..16 {
+            assert_eq!(device.held(stream), ROOM as u32 - 1);
+            device.words(&mut [], call::CLOSE_STREAM, &arguments(&[stream]), &[]);
+            assert_eq!(device.held(stream), 0);
+            device.words(&mut [], call::OPEN_STREAM, &arguments(&[stream]), &[]);
+        }
+        assert!(device.device() == before);
+    }
+}
+
 /// Devices of the crate are equal where they had the same calls, and others are not.
 #[test]
 fn equal_devices() {
@@ -183,8 +228,8 @@ fn equal_devices() {
 /// Says whether words are an answer: a kind that there is, and a local refusal's number where it is one.
 fn is_answer(words: &Words) -> bool {
     match words[0] {
-        kind::REFUSED => matches!(words[1], 1..=11 | 19),
-        other => other <= kind::ENDED,
+        kind::REFUSED => matches!(words[1], 1..=11 | 16 | 19),
+        other => other <= kind::KEPT,
     }
 }
 
@@ -192,7 +237,7 @@ fn is_answer(words: &Words) -> bool {
 #[test]
 fn any_words_are_a_device() {
     let mut prng = Prng::new(3);
-    let mut store = vec![0; SMALL];
+    let (mut store, mut rooms) = (vec![0; SMALL], any_rooms(&mut prng));
     let mut write = Draft::new(true, 0);
     write.payload = vec![1; 16];
     for _ in 0..2000 {
@@ -209,6 +254,12 @@ fn any_words_are_a_device() {
                 let bytes = frame(&write.ulpdu(), 0);
                 let answer = device.words(&mut store, number, &given, &bytes);
                 assert!(is_answer(&answer), "{number}: {answer:?}");
+                let length = prng.index(bytes.len() + 1);
+                let (stream, bytes) = (given[0] % 20, &bytes[..length]);
+                let answer = device.offer(&mut store, &mut rooms, stream, bytes);
+                assert!(is_answer(&answer), "offer: {answer:?}");
+                assert!(answer[6] <= length as u64, "offer: {answer:?}");
+                assert!(device.held(stream + 16) == 0, "{stream}");
             }
         }
     }

@@ -1,8 +1,9 @@
-//! The C interface as a Rust program sees it: its layout, its calls, its CRC, its messages, the stored scripts, and random
-//! nights beside the second program.
+//! The C interface as a Rust program sees it: its layout, its calls, its CRC, its messages, bytes cut anywhere, the stored
+//! scripts, and random nights beside the second program.
 
 mod calls;
 mod crc;
+mod cuts;
 mod header;
 mod inputs;
 mod layout;

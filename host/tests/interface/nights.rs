@@ -27,11 +27,17 @@ fn nights<D: Calls>(new: fn() -> D, size: usize, seeds: std::ops::Range<u64>, li
         "taken send",
         "taken send stag",
         "taken terminate",
+        "took",
+        "took taken",
+        "took taken send",
+        "took taken send stag",
+        "took taken terminate",
+        "held",
     ] {
         assert!(tally.count_all(kind) >= 10, "{kind}:\n{tally}");
     }
     let local = (1..=11)
-        .chain([19])
+        .chain([16, 19])
         .map(|number| format!("refused {number}"));
     let faults = FAULTS.iter().map(|fault| format!("refused {fault}"));
     for kind in local.chain(faults) {

@@ -4,10 +4,10 @@
 
 use std::collections::BTreeMap;
 
-use host::raw::{call, kind, rnic_c_call, rnic_c_receive, Rnic, Words};
+use host::raw::{call, kind, rnic_c_call, rnic_c_held, rnic_c_offer, rnic_c_receive};
 use host::raw::{rnic_c_crc32c, rnic_c_crc32c_join, rnic_c_crc32c_update};
 use host::raw::{rnic_c_fpdu_write, rnic_c_message_next, rnic_c_message_send};
-use host::raw::{rnic_c_message_write, RnicMessage, Written};
+use host::raw::{rnic_c_message_write, Rnic, RnicMessage, Words, Written, ROOM};
 use oracle::command::Command;
 
 use crate::header::{defined, header};
@@ -16,9 +16,12 @@ use crate::support::painted::Painted;
 use crate::support::{night, Calls, Program};
 
 /// The entries, by which a row of the table has its columns.
-const ENTRIES: [&str; 2] = ["rnic_c_call", "rnic_c_receive"];
+const ENTRIES: [&str; 3] = ["rnic_c_call", "rnic_c_receive", "rnic_c_offer"];
 
-/// A device whose calls are measured: by their number, or receive by its own entry.
+/// Where in an FPDU its opcode stands.
+const CONTROL: usize = 3;
+
+/// A device whose calls are measured: by their number, or receive by its own entry; an offer has no number.
 struct Measured {
     state: Box<Rnic>,
     stack: Painted,
@@ -36,10 +39,65 @@ impl Measured {
             depths: BTreeMap::new(),
         }
     }
+
+    /// Keeps how deep a call went, where none of its name went deeper.
+    fn keep(&mut self, name: String, depth: usize) {
+        let most = self.depths.entry(name).or_default();
+        *most = depth.max(*most);
+    }
+
+    /// Gives how many bytes a stream holds.
+    fn held(&mut self, stream: u64) -> usize {
+        let words = [&raw const *self.state as usize, stream as usize, 0, 0, 0, 0];
+        // SAFETY: the arguments are a pointer to a device that is held, and a number.
+        let depth = unsafe { self.stack.call(rnic_c_held as *const (), words) };
+        self.keep(String::from("held"), depth);
+        // SAFETY: as above.
+        unsafe { rnic_c_held(&*self.state, stream) as usize }
+    }
+
+    /// Offers bytes.
+    fn offer(&mut self, store: &mut [u8], rooms: &mut [u8], stream: u64, bytes: &[u8]) -> Words {
+        let control = self.control(rooms, stream, bytes);
+        let mut answer: Words = [0; 8];
+        let words = [
+            &raw mut *self.state as usize,
+            store.as_mut_ptr() as usize,
+            store.len(),
+            rooms.as_mut_ptr() as usize,
+            rooms.len(),
+            stream as usize,
+            bytes.as_ptr() as usize,
+            bytes.len(),
+            &raw mut answer as usize,
+        ];
+        // SAFETY: these are the arguments of the entry in their order, and all that they point at is held for the call.
+        let depth = unsafe { self.stack.call(rnic_c_offer as *const (), words) };
+        self.keep(
+            refused(format!("offer{}", received(control, answer[0])), &answer),
+            depth,
+        );
+        answer
+    }
+
+    /// Gives the byte of an FPDU that its opcode stands in: of those held, or else of those offered.
+    fn control(&mut self, rooms: &[u8], stream: u64, bytes: &[u8]) -> Option<u8> {
+        let held = self.held(stream);
+        if held > CONTROL {
+            return rooms.get(stream as usize * ROOM + CONTROL).copied();
+        }
+        bytes.get(CONTROL - held).copied()
+    }
 }
 
 impl Calls for Measured {
-    fn call(&mut self, command: &Command, store: &mut [u8]) -> String {
+    fn call(&mut self, command: &Command, store: &mut [u8], rooms: &mut [u8]) -> String {
+        if let Command::Offer { stream, bytes, .. } = command {
+            return text(command, self.offer(store, rooms, *stream, bytes));
+        }
+        if let Command::Held(stream) = command {
+            return format!("held {}", self.held(*stream));
+        }
         let Some((number, arguments, bytes)) = encode(command) else {
             return String::from("no call of the device");
         };
@@ -61,11 +119,7 @@ impl Calls for Measured {
         let words = [device, lent, lent_length, a, b, c, d, e];
         // SAFETY: these are the arguments of the entry in their order, and all that they point at is held for the call.
         let depth = unsafe { self.stack.call(entry, words) };
-        let most = self
-            .depths
-            .entry(label(number, bytes, &answer))
-            .or_default();
-        *most = depth.max(*most);
+        self.keep(label(number, bytes, &answer), depth);
         text(command, answer)
     }
 }
@@ -82,26 +136,36 @@ fn label(number: u64, bytes: &[u8], answer: &Words) -> String {
         call::TAKE => "take",
         call::LIVE_COUNT => "live_count",
         call::LOWEST_FREE => "lowest_free",
-        _ => received(bytes, answer[0]),
+        _ => "receive",
     };
+    let behind = match number {
+        call::RECEIVE => received(bytes.get(CONTROL).copied(), answer[0]),
+        _ => "",
+    };
+    refused(format!("{name}{behind}"), answer)
+}
+
+/// Adds to a name that the call was refused, where it was.
+fn refused(name: String, answer: &Words) -> String {
     match answer[0] {
         kind::REFUSED => format!("{name}, refused"),
-        _ => String::from(name),
+        _ => name,
     }
 }
 
 /// Names what was received by the answer's kind and, where that does not tell it, the opcode.
-fn received(bytes: &[u8], kind: u64) -> &'static str {
-    match (kind, bytes.get(3).map(|control| control & 15)) {
-        (kind::WAIT, _) => "receive: Wait",
-        (kind::TAKEN, Some(0)) => "receive: Write",
-        (kind::TAKEN, Some(1)) => "receive: Read Request",
-        (kind::TAKEN, _) => "receive: Send that goes on",
-        (kind::SENT, _) => "receive: Send",
-        (kind::SENT_INVALIDATING, _) => "receive: Send with Invalidate",
-        (kind::TERMINATED, _) => "receive: Terminate",
-        (kind::ENDED, _) => "receive: the peer's bytes refused",
-        _ => "receive",
+fn received(control: Option<u8>, kind: u64) -> &'static str {
+    match (kind, control.map(|control| control & 15)) {
+        (kind::WAIT, _) => ": Wait",
+        (kind::KEPT, _) => ": all kept",
+        (kind::TAKEN, Some(0)) => ": Write",
+        (kind::TAKEN, Some(1)) => ": Read Request",
+        (kind::TAKEN, _) => ": Send that goes on",
+        (kind::SENT, _) => ": Send",
+        (kind::SENT_INVALIDATING, _) => ": Send with Invalidate",
+        (kind::TERMINATED, _) => ": Terminate",
+        (kind::ENDED, _) => ": the peer's bytes refused",
+        _ => "",
     }
 }
 
@@ -213,17 +277,30 @@ fn next_depths() -> [usize; 2] {
 fn stack_of_the_entries() {
     let columns = [false, true].map(depths);
     println!(
-        "| bytes of stack | {} |\n|---|---:|---:|",
+        "| bytes of stack | {} |\n|---|---:|---:|---:|",
         ENTRIES.join(" | ")
     );
-    for name in columns[0].keys() {
-        let of = |column: usize| match columns[column].get(name) {
-            Some(depth) if column == 0 || name.starts_with("receive") => depth.to_string(),
-            _ => String::from("–"),
-        };
-        println!("| {name} | {} | {} |", of(0), of(1));
+    let most = |column: usize, of: &str| {
+        let of = columns[column]
+            .iter()
+            .filter(|(name, _)| name.starts_with(of));
+        of.map(|(_, depth)| *depth).max()
+    };
+    let called = columns[0]
+        .iter()
+        .filter(|(name, _)| !name.starts_with("offer") && *name != "held");
+    for (name, depth) in called.clone() {
+        let alone = columns[1].get(name).filter(|_| name.starts_with("receive"));
+        let alone = alone.map_or(String::from("–"), usize::to_string);
+        println!("| {name} | {depth} | {alone} | – |");
     }
-    println!("\nrnic_c_crc32c: {}", crc_depth());
+    for (name, depth) in &columns[0] {
+        if name.starts_with("offer") {
+            println!("| {name} | – | – | {depth} |");
+        }
+    }
+    println!("\nrnic_c_held: {:?}", most(0, "held"));
+    println!("rnic_c_crc32c: {}", crc_depth());
     println!("rnic_c_crc32c_update: {}", update_depth());
     println!("rnic_c_crc32c_join: {}", join_depth());
     println!(
@@ -232,16 +309,12 @@ fn stack_of_the_entries() {
     );
     let [next, fpdu] = next_depths();
     println!("rnic_c_message_next: {next}\nrnic_c_fpdu_write: {fpdu}");
-    assert_eq!(columns[0].len(), 27, "every call and answer is met");
-    let receives = columns[1]
-        .iter()
-        .filter(|(name, _)| name.starts_with("receive"));
+    assert_eq!(columns[0].len(), 37, "every call and answer is met");
     let most = [
-        ("RNIC_C_CALL_STACK", columns[0].values().max().copied()),
-        (
-            "RNIC_C_RECEIVE_STACK",
-            receives.map(|(_, depth)| *depth).max(),
-        ),
+        ("RNIC_C_CALL_STACK", called.map(|(_, depth)| *depth).max()),
+        ("RNIC_C_RECEIVE_STACK", most(1, "receive")),
+        ("RNIC_C_OFFER_STACK", most(0, "offer")),
+        ("RNIC_C_HELD_STACK", most(0, "held")),
         ("RNIC_C_CRC32C_STACK", Some(crc_depth())),
         ("RNIC_C_CRC32C_UPDATE_STACK", Some(update_depth())),
         ("RNIC_C_CRC32C_JOIN_STACK", Some(join_depth())),

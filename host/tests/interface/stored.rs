@@ -57,5 +57,5 @@ fn stored_scripts() {
         .map(|entry| entry.unwrap().path());
     let scripts = files.filter(|path| path.extension().is_some_and(|end| end == "txt"));
     let compared: usize = scripts.map(|script| compare(&script)).sum();
-    assert!(compared > 400, "{compared} answers compared");
+    assert!(compared > 2000, "{compared} answers compared");
 }

@@ -1,4 +1,4 @@
-//! The calls of a night but receive, most of them good.
+//! The calls of a night but receive and offer, most of them good.
 
 use super::malformed::malform;
 use super::nights::Night;
@@ -185,7 +185,9 @@ impl Night {
 
     /// Says a line that is oddly written.
     pub(super) fn odd_line(&mut self, stream: usize) {
-        let word = self.prng.pick(&["take", "close", "live", "free", "drop"]);
+        let word = self
+            .prng
+            .pick(&["take", "close", "live", "free", "drop", "held"]);
         let line = malform(&mut self.prng, format!("{word} {stream}").as_bytes());
         self.say(line);
     }

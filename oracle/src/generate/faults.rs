@@ -45,6 +45,7 @@ fn spoil_target(prng: &mut Prng, device: &Device, stream: usize, kind: Kind, dra
     let reach = draft.reach();
     let choice = match kind {
         Kind::Send => prng.pick(&[0, 0, 0, 1, 2, 3]),
+        Kind::Read => prng.pick(&[0, 0, 0, 1, 2, 3, 4, 5, 6, 7, 7, 7, 8, 9, 9, 9, 9, 9, 9]),
         _ => prng.pick(&[0, 0, 0, 1, 2, 3, 4, 5, 6, 7, 7, 7, 8, 9, 9, 9]),
     };
     match choice {

@@ -37,7 +37,8 @@ pub fn write_script(
     out.flush()
 }
 
-/// Makes the opening and `count` calls of a domain that is alone, each followed by a look at its part.
+/// Makes the opening and `count` calls of a domain that is alone, each followed by a look at its part, and an offer also by
+/// the question what its stream holds.
 fn own_calls(seed: u64, domain: usize, count: u64) -> Own {
     let opening = roomy_opening(&mut Prng::new(seed), domain);
     let mut night = Night::new(seed, vec![domain], count + 1);
@@ -48,7 +49,13 @@ fn own_calls(seed: u64, domain: usize, count: u64) -> Own {
     let part = night.interpreter.device.parts[domain];
     let show = format!("bytes {} {}", part.start, part.end - part.start).into_bytes();
     let lines = night.lines.into_iter().skip(1).chain(last_calls(domain));
-    let calls = lines.flat_map(|line| [line, show.clone()]).collect();
+    let mut calls = Vec::new();
+    for line in lines {
+        let held = held_after(&line);
+        calls.push(line);
+        calls.extend(held);
+        calls.push(show.clone());
+    }
     Own {
         opening,
         domain,
@@ -56,12 +63,19 @@ fn own_calls(seed: u64, domain: usize, count: u64) -> Own {
     }
 }
 
+/// Asks after an offer how many bytes its stream holds.
+fn held_after(line: &[u8]) -> Option<Vec<u8>> {
+    let offered = line.strip_prefix(b"offer ")?;
+    let stream = offered.split(|&byte| byte == b' ').next()?;
+    Some([b"held ", stream].concat())
+}
+
 /// Gives the calls that bring to light what a domain's state still holds.
 fn last_calls(domain: usize) -> Vec<Vec<u8>> {
     let first = domain * STREAMS_PER_DOMAIN;
     let mut lines = vec![format!("live {domain}"), format!("free {domain}")];
     for stream in first..first + STREAMS_PER_DOMAIN {
-        lines.extend([format!("take {stream}"), format!("close {stream}")]);
+        lines.extend(["held", "take", "close"].map(|word| format!("{word} {stream}")));
     }
     lines.into_iter().map(String::into_bytes).collect()
 }

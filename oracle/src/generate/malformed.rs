@@ -17,11 +17,12 @@ pub fn malform(prng: &mut Prng, line: &[u8]) -> Vec<u8> {
 /// Gives a line at or near the limit of length.
 pub fn long_line(prng: &mut Prng, line: &[u8]) -> Vec<u8> {
     let length = MAX_LINE + prng.pick(&[0, 0, 0, 1, 1, 2, 100]);
-    match prng.below(5) {
+    match prng.below(6) {
         0 => filled(b"#".to_vec(), b'#', length),
         1 => filled(b"unframe off ".to_vec(), b'0', length),
         2 => filled(b"fpdu ".to_vec(), b'a', length),
         3 => filled(b"crc ".to_vec(), b'5', length),
+        4 => filled(b"offer 0 ".to_vec(), b'1', length),
         _ => filled(line.to_vec(), b' ', length),
     }
 }
@@ -141,6 +142,16 @@ fn other_line(prng: &mut Prng) -> Vec<u8> {
         b"join 00000000 00000000",
         b"join 00000000 00000000 -",
         b"join 00000000 00000000 0 0",
+        b"offer",
+        b"offer 0",
+        b"offer 0 0",
+        b"offer 0 - -",
+        b"offer 0 - 0 32897",
+        b"offer 0 - 0 32896 0",
+        b"held",
+        b"held -",
+        b"held 16",
+        b"held 0 0",
         b"-",
         b"\xFF\xFE",
     ]);

@@ -1,4 +1,4 @@
-//! Scripts of messages: begun, written one segment at a time, and each segment framed and received.
+//! Scripts of messages: begun, written one segment at a time, and each segment framed and received or offered in pieces.
 
 use std::io::{self, Write};
 
@@ -113,7 +113,7 @@ impl Night {
     fn deliver(&mut self) {
         let stream = self.prng.index(STREAMS);
         match self.interpreter.device.streams[stream].condition {
-            Condition::Open => (),
+            Condition::Open if !self.holds(stream) => (),
             Condition::Closed => self.open_stream(stream),
             _ => {
                 self.say(format!("close {stream}"));
@@ -241,8 +241,12 @@ impl Night {
                 4 => return,
                 _ => frame(&ulpdu, 0),
             };
-            let answer = self.say(format!("receive {stream} {}", hex::encode(&bytes)));
-            taken = answer.starts_with("taken");
+            taken = match self.prng.percent(25) {
+                true => self.offer_whole(stream, bytes),
+                false => self
+                    .say(format!("receive {stream} {}", hex::encode(&bytes)))
+                    .starts_with("taken"),
+            };
             if !taken && self.prng.percent(70) {
                 return;
             }

@@ -8,6 +8,7 @@ pub mod interleave;
 pub mod malformed;
 pub mod messages;
 pub mod nights;
+mod offering;
 mod openings;
 mod pieces;
 mod places;

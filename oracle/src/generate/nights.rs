@@ -67,13 +67,15 @@ pub(super) fn write_steps(
 }
 
 /// A night under way: the domains whose calls it makes, the length that most openings have where there is one, how many
-/// FPDUs in a hundred it spoils, its lines so far and the number still to come.
+/// FPDUs in a hundred it spoils, what is to follow the bytes that each stream holds, its lines so far and the number still
+/// to come.
 pub(super) struct Night {
     pub(super) prng: Prng,
     pub(super) interpreter: Interpreter,
     pub(super) domains: Vec<usize>,
     usual: Option<u64>,
     pub(super) faulty: u64,
+    pub(super) rest: [Vec<u8>; STREAMS],
     pub(super) lines: Vec<Vec<u8>>,
     pub(super) left: u64,
 }
@@ -87,6 +89,7 @@ impl Night {
             domains,
             usual: None,
             faulty: FAULTY,
+            rest: std::array::from_fn(|_| Vec::new()),
             lines: Vec::new(),
             left,
         }
@@ -137,6 +140,7 @@ impl Night {
                     self.open_stream(stream);
                 }
             }
+            _ if self.holds(stream) && self.prng.percent(60) => self.go_on(stream),
             _ => self.act(stream),
         }
     }
@@ -145,19 +149,24 @@ impl Night {
     fn act(&mut self, stream: usize) {
         let domain = stream_domain(stream);
         match self.prng.below(1000) {
-            0..=559 => self.receive(stream),
+            0..=299 => self.receive(stream),
+            300..=559 => self.offer(stream),
             560..=619 => self.register(domain, None),
             620..=659 => self.drop_window(domain),
             660..=759 => self.post(stream),
             760..=819 => self.take(stream),
-            820..=849 => self.numbered("live", domain, DOMAINS),
-            850..=879 => self.numbered("free", domain, DOMAINS),
+            820..=844 => self.numbered("live", domain, DOMAINS),
+            845..=869 => self.numbered("free", domain, DOMAINS),
+            870..=879 => self.numbered("held", stream, STREAMS),
             880..=899 => self.show(),
-            900..=914 => self.fill(),
+            900..=909 => self.fill(),
+            910..=914 => self.probe(stream),
             915..=924 => self.numbered("close", stream, STREAMS),
             925..=934 => self.open_stream(stream),
-            935..=944 => self.batch(stream, 0),
-            945..=964 => self.batch(stream, 12),
+            935..=939 => self.batch(stream, 0),
+            940..=944 => self.offer_batch(stream, 0),
+            945..=954 => self.batch(stream, 12),
+            955..=964 => self.offer_batch(stream, 12),
             965..=969 => (0..10).for_each(|_| self.post(stream)),
             970..=974 => (0..9).for_each(|_| self.receive_good(stream, Kind::Read)),
             975..=979 => (0..9).for_each(|_| self.numbered("take", stream, STREAMS)),

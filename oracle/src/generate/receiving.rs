@@ -26,7 +26,7 @@ impl Night {
     }
 
     /// Makes what a good FPDU of this kind needs, where it is not there: a buffer, a window, mostly room for a read.
-    fn prepare(&mut self, stream: usize, kind: Kind) {
+    pub(super) fn prepare(&mut self, stream: usize, kind: Kind) {
         let device = &self.interpreter.device;
         let record = &device.streams[stream];
         let right = match kind {
@@ -44,7 +44,7 @@ impl Night {
     }
 
     /// Gives the word of another lent length, or nothing.
-    fn lent(&mut self) -> String {
+    pub(super) fn lent(&mut self) -> String {
         let length = self.interpreter.device.length;
         let store = self.store();
         if length == 0 && self.prng.percent(70) {
@@ -66,14 +66,18 @@ impl Night {
         self.say(format!("receive {stream} {}", hex::encode(&bytes)));
     }
 
-    /// Receives a Write that aims at another domain's window.
+    /// Receives or offers a Write that aims at another domain's window.
     pub(super) fn probe(&mut self, stream: usize) {
+        if self.holds(stream) {
+            return self.go_on(stream);
+        }
         let (prng, device) = (&mut self.prng, &self.interpreter.device);
         let mut draft = Draft::new(true, rdmap::WRITE);
         draft.stag = other_domain(prng, device, stream_domain(stream) as u64);
         draft.payload = prng.bytes(1);
+        let word = prng.pick(&["receive", "offer"]);
         let bytes = frame(&draft.ulpdu(), 0);
-        self.say(format!("receive {stream} {}", hex::encode(&bytes)));
+        self.say(format!("{word} {stream} {}", hex::encode(&bytes)));
     }
 
     /// Takes a read, mostly one that waits.
@@ -104,8 +108,9 @@ impl Night {
     }
 
     /// Makes several FPDUs that follow each other, tried on a copy of the device.
-    fn batch_bytes(&mut self, stream: usize, faulty: u64) -> Vec<u8> {
+    pub(super) fn batch_bytes(&mut self, stream: usize, faulty: u64) -> Vec<u8> {
         let mut device = self.interpreter.device.clone();
+        device.streams[stream].held.clear();
         let mut store = vec![0; device.length as usize];
         let mut slice = Vec::new();
         for _ in 0..self.prng.between(2, 5) {

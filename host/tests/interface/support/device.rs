@@ -1,18 +1,23 @@
 //! The safe functions as a device for scripts.
 
-use host::{Device, Error, Event, Received, Window};
+use host::{Device, Error, Event, Fault, Offered, Received, Window};
 use oracle::command::Command;
 
 use super::Calls;
 
 impl Calls for Device {
-    fn call(&mut self, command: &Command, store: &mut [u8]) -> String {
-        answer(self, command, store).unwrap_or_else(|error| error.to_string())
+    fn call(&mut self, command: &Command, store: &mut [u8], rooms: &mut [u8]) -> String {
+        answer(self, command, store, rooms).unwrap_or_else(|error| error.to_string())
     }
 }
 
 /// Makes the call of a command and writes its answer.
-fn answer(device: &mut Device, command: &Command, store: &mut [u8]) -> Result<String, Error> {
+fn answer(
+    device: &mut Device,
+    command: &Command,
+    store: &mut [u8],
+    rooms: &mut [u8],
+) -> Result<String, Error> {
     Ok(match command {
         Command::Open { length, parts } => {
             device.open(*length, parts.map(|part| part.start..part.end))?;
@@ -31,6 +36,10 @@ fn answer(device: &mut Device, command: &Command, store: &mut [u8]) -> Result<St
             length,
         } => done(device.post(*stream, *start, *length)?),
         Command::Receive { stream, bytes, .. } => received(device.receive(store, *stream, bytes)?),
+        Command::Offer { stream, bytes, .. } => {
+            offered(device.offer(store, rooms, *stream, bytes)?)
+        }
+        Command::Held(stream) => format!("held {}", device.held(*stream)),
         Command::Take(stream) => {
             let read = device.take(*stream)?;
             let (sink, source) = (read.sink_stag, read.source_stag);
@@ -78,11 +87,32 @@ fn received(answer: Received) -> String {
     match answer {
         Received::Wait(total) => format!("wait {total}"),
         Received::Taken { total, event } => format!("taken {total}{}", reported(event)),
-        Received::Ended(fault) => format!(
-            "refused {} {}/{}/{:02X}",
-            fault.number, fault.layer, fault.etype, fault.code
-        ),
+        Received::Ended(fault) => ended(fault),
     }
+}
+
+/// Writes what an offer answers.
+fn offered(answer: Offered) -> String {
+    match answer {
+        Offered::Kept { taken } => format!("took {taken}"),
+        Offered::Taken {
+            taken,
+            total,
+            event,
+        } => format!("took {taken} taken {total}{}", reported(event)),
+        Offered::Ended(fault) => ended(fault),
+    }
+}
+
+/// Writes a refusal of the peer's bytes.
+fn ended(fault: Fault) -> String {
+    let Fault {
+        number,
+        layer,
+        etype,
+        code,
+    } = fault;
+    format!("refused {number} {layer}/{etype}/{code:02X}")
 }
 
 /// Writes an event, a space before it where there is one.

@@ -4,10 +4,13 @@ pub mod device;
 pub mod numbered;
 pub mod painted;
 
+use host::raw::{ROOM, ROOMS};
 use oracle::command::{parse, Command, Line};
 use oracle::generate::nights;
+use oracle::generate::prng::Prng;
 use oracle::hex;
 use oracle::script::Interpreter;
+use oracle::state::{Device as Second, STREAMS};
 use oracle::tally::Tally;
 
 /// A store so small that all of it is compared after each line.
@@ -15,23 +18,30 @@ const SMALL: usize = 65_536;
 
 /// A device whose calls can be made by the commands of a script.
 pub trait Calls {
-    /// Makes the call of a command, with the store lent, and gives the script's answer.
-    fn call(&mut self, command: &Command, store: &mut [u8]) -> String;
+    /// Makes the call of a command, with the store and the rooms lent, and gives the script's answer.
+    fn call(&mut self, command: &Command, store: &mut [u8], rooms: &mut [u8]) -> String;
 }
 
-/// A device with its store and the count of bytes that it is lent.
+/// A device with its store, its rooms and the count of the store's bytes that it is lent.
 pub struct Program<D> {
     pub device: D,
-    store: Vec<u8>,
+    pub store: Vec<u8>,
+    pub rooms: Vec<u8>,
     lent: usize,
 }
 
 impl<D: Calls> Program<D> {
-    /// Starts with a zero store of this size.
+    /// Starts with a zero store of this size, and zero rooms.
     pub fn new(device: D, size: usize) -> Self {
+        Program::within(device, size, vec![0; ROOMS])
+    }
+
+    /// Starts with a zero store of this size, and rooms in which there are these bytes.
+    pub fn within(device: D, size: usize, rooms: Vec<u8>) -> Self {
         Program {
             device,
             store: vec![0; size],
+            rooms,
             lent: 0,
         }
     }
@@ -65,14 +75,24 @@ impl<D: Calls> Program<D> {
         if let Command::Open { length, .. } = command {
             self.lent = self.store.len().min(*length as usize);
         }
-        let lent = match command {
-            Command::Receive {
-                lent: Some(lent), ..
-            } => *lent as usize,
-            _ => self.lent,
+        let (lent, held) = match command {
+            Command::Receive { lent, .. } => (*lent, None),
+            Command::Offer { lent, held, .. } => (*lent, *held),
+            Command::Held(stream) if *stream >= STREAMS as u64 => return None,
+            _ => (None, None),
         };
-        let store = self.store.get_mut(..lent)?;
-        Some(self.device.call(command, store))
+        let lent = lent.map_or(self.lent, |lent| lent as usize);
+        let held = held.map_or(ROOMS, |held| held as usize);
+        let (store, rooms) = (self.store.get_mut(..lent)?, self.rooms.get_mut(..held)?);
+        Some(self.device.call(command, store, rooms))
+    }
+
+    /// Says whether the rooms hold the same bytes as the second program's streams.
+    pub fn holds_as(&self, second: &Second) -> bool {
+        let rooms = self.rooms.chunks(ROOM);
+        rooms
+            .zip(&second.streams)
+            .all(|(room, stream)| room.starts_with(&stream.held))
     }
 
     /// Gives a range of the store, or nothing where it goes past the store's size.
@@ -80,6 +100,27 @@ impl<D: Calls> Program<D> {
         let end = start.checked_add(length)?;
         (end <= self.store.len() as u64).then_some(start as usize..end as usize)
     }
+}
+
+/// Gives the stream whose room a line may write to.
+fn offered(line: &[u8]) -> Option<u64> {
+    match parse(line) {
+        Line::Command(Command::Offer { stream, .. }) => Some(stream),
+        _ => None,
+    }
+}
+
+/// Says whether all rooms but a stream's have the same bytes.
+pub fn same_beside(rooms: &[u8], others: &[u8], stream: Option<u64>) -> bool {
+    let rooms = rooms.chunks(ROOM).zip(others.chunks(ROOM));
+    (0..)
+        .zip(rooms)
+        .all(|(number, (room, other))| Some(number) == stream || room == other)
+}
+
+/// Gives rooms in which there is anything.
+pub fn any_rooms(prng: &mut Prng) -> Vec<u8> {
+    prng.bytes(ROOMS)
 }
 
 /// Gives the lines of a random night over a store of this size.
@@ -90,16 +131,20 @@ pub fn night(size: usize, seed: u64, count: u64) -> Vec<Vec<u8>> {
     lines.map(<[u8]>::to_vec).collect()
 }
 
-/// Runs a random night over a store of this size on both programs, comparing each line and the store, and counts.
+/// Runs a random night over a store of this size on both programs, comparing each line, the store and what is held, and
+/// counts. The rooms start with anything, and a line changes none but the room of the stream that it offers bytes to.
 pub fn compare(device: impl Calls, size: usize, seed: u64, count: u64, tally: &mut Tally) {
     let mut second = Interpreter::with_store(size);
-    let mut ours = Program::new(device, size);
+    let mut ours = Program::within(device, size, any_rooms(&mut Prng::new(seed)));
     for (at, line) in night(size, seed, count).iter().enumerate() {
+        let rooms = ours.rooms.clone();
         let (answer, expected) = (ours.run_line(line), second.run_line(line));
         let same_store = size > SMALL || ours.store == second.store;
+        let same_rooms =
+            ours.holds_as(&second.device) && same_beside(&ours.rooms, &rooms, offered(line));
         assert!(
-            answer == expected && same_store,
-            "seed {seed}, line {at}: {:?} was answered {:?}, and not {:?}; the store is the same: {same_store}",
+            answer == expected && same_store && same_rooms,
+            "seed {seed}, line {at}: {:?} was answered {:?}, and not {:?}; the store is the same: {same_store}, the rooms: {same_rooms}",
             clip(&String::from_utf8_lossy(line)),
             answer.as_deref().map(clip),
             expected.as_deref().map(clip),

@@ -1,6 +1,7 @@
-//! The one entry that takes a call's number, as a device for scripts: numbers in, words out.
+//! The entries themselves, as a device for scripts, every call but an offer by its number: numbers in, words out.
 
-use host::raw::{call, rnic_c_call, rnic_c_receive, Arguments, Words, DEVICE_WORDS};
+use host::raw::{call, kind, rnic_c_call, rnic_c_held, rnic_c_offer, rnic_c_receive};
+use host::raw::{Arguments, Words, DEVICE_WORDS};
 use oracle::command::Command;
 
 use super::Calls;
@@ -86,22 +87,65 @@ impl Numbered {
                 );
             }
         }
-        let (front, rest) = self.words.split_at(self.at);
-        let beside = front.iter().chain(&rest[DEVICE_WORDS..]);
-        assert!(
-            beside.copied().all(|word| word == PATTERN),
-            "{number} {arguments:?}"
-        );
+        assert!(self.is_alone(), "{number} {arguments:?}");
         answer
+    }
+
+    /// Offers bytes to a stream; no word beside the device may change.
+    pub fn offer(
+        &mut self,
+        store: &mut [u8],
+        rooms: &mut [u8],
+        stream: u64,
+        bytes: &[u8],
+    ) -> Words {
+        let mut answer = [0xA5A5; 8];
+        let device = self.words[self.at..].as_mut_ptr().cast();
+        // SAFETY: as in `words`.
+        unsafe {
+            rnic_c_offer(
+                device,
+                store.as_mut_ptr(),
+                store.len(),
+                rooms.as_mut_ptr(),
+                rooms.len(),
+                stream,
+                bytes.as_ptr(),
+                bytes.len(),
+                &mut answer,
+            );
+        }
+        assert!(self.is_alone(), "{stream} {bytes:?}");
+        answer
+    }
+
+    /// Gives how many bytes a stream holds.
+    pub fn held(&self, stream: u64) -> u32 {
+        let device = self.words[self.at..].as_ptr().cast();
+        // SAFETY: the pointer is that of words that are held for the call, as many as a device has.
+        unsafe { rnic_c_held(device, stream) }
+    }
+
+    /// Says whether the words beside the device are as they were.
+    fn is_alone(&self) -> bool {
+        let (front, rest) = self.words.split_at(self.at);
+        let mut beside = front.iter().chain(&rest[DEVICE_WORDS..]);
+        beside.all(|word| *word == PATTERN)
     }
 }
 
 impl Calls for Numbered {
-    fn call(&mut self, command: &Command, store: &mut [u8]) -> String {
-        let Some((number, arguments, bytes)) = encode(command) else {
-            return String::from("no call of the device");
-        };
-        text(command, self.words(store, number, &arguments, bytes))
+    fn call(&mut self, command: &Command, store: &mut [u8], rooms: &mut [u8]) -> String {
+        match (command, encode(command)) {
+            (Command::Offer { stream, bytes, .. }, _) => {
+                text(command, self.offer(store, rooms, *stream, bytes))
+            }
+            (Command::Held(stream), _) => format!("held {}", self.held(*stream)),
+            (_, Some((number, arguments, bytes))) => {
+                text(command, self.words(store, number, &arguments, bytes))
+            }
+            (_, None) => String::from("no call of the device"),
+        }
     }
 }
 
@@ -145,6 +189,19 @@ pub fn encode(command: &Command) -> Option<(u64, Arguments, &[u8])> {
 
 /// Writes an answer's words as the script's line.
 pub fn text(command: &Command, words: Words) -> String {
+    match (words, command) {
+        ([kind::KEPT, 0, 0, 0, 0, 0, took, 0], Command::Offer { .. }) => format!("took {took}"),
+        ([kind::TAKEN..=kind::TERMINATED, ..], Command::Offer { .. }) => {
+            let [kind, total, a, b, c, d, took, last] = words;
+            let taken = line(command, [kind, total, a, b, c, d, 0, last]);
+            format!("took {took} {taken}")
+        }
+        _ => line(command, words),
+    }
+}
+
+/// Writes the words that are no more than a kind and its numbers.
+fn line(command: &Command, words: Words) -> String {
     match (words, command) {
         ([0, n, 0, 0, 0, 0, 0, 0], _) => format!("refused {n}"),
         ([1, 0, 0, 0, 0, 0, 0, 0], Command::Open { .. }) => String::from("opened"),

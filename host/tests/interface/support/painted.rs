@@ -22,35 +22,39 @@ impl Painted {
         }
     }
 
-    /// Calls a function of at most eight words on the stack and gives how many bytes of it were used, which counts the
-    /// arguments that go by the stack and the return address.
+    /// Calls a function of some words on the stack and gives how many bytes of it were used, which counts the arguments that
+    /// go by the stack, those after the sixth, and the return address.
     ///
     /// # Safety
     /// The function is one of the C calling convention, and the words are arguments that it may be called with.
-    pub unsafe fn call(&mut self, entry: *const (), words: [usize; 8]) -> usize {
+    pub unsafe fn call<const N: usize>(&mut self, entry: *const (), words: [usize; N]) -> usize {
         self.pattern = (self.pattern + 1) % PATTERNS.len();
         let pattern = PATTERNS[self.pattern];
         self.words.fill(pattern);
-        let [a, b, c, d, e, f, g, h] = words;
+        let (registers, behind) = words.split_at(6);
+        let pairs = behind.chunks(2).map(|pair| {
+            let high = pair.get(1).copied().unwrap_or(0);
+            (high as u128) << 64 | pair[0] as u128
+        });
+        let top = WORDS - pairs.len();
+        for (word, pair) in self.words[top..].iter_mut().zip(pairs) {
+            *word = pair;
+        }
         // SAFETY: the caller answers for the call; the stack is long enough and aligned, and the old one is put back.
         unsafe {
             asm!(
                 "mov r12, rsp",
                 "mov rsp, {top}",
-                "push {h}",
-                "push {g}",
                 "call {entry}",
                 "mov rsp, r12",
-                top = in(reg) self.words.as_mut_ptr_range().end,
-                g = in(reg) g,
-                h = in(reg) h,
+                top = in(reg) self.words.as_mut_ptr().add(top),
                 entry = in(reg) entry,
-                in("rdi") a,
-                in("rsi") b,
-                in("rdx") c,
-                in("rcx") d,
-                in("r8") e,
-                in("r9") f,
+                in("rdi") registers[0],
+                in("rsi") registers[1],
+                in("rdx") registers[2],
+                in("rcx") registers[3],
+                in("r8") registers[4],
+                in("r9") registers[5],
                 out("r12") _,
                 clobber_abi("C"),
             );

@@ -20,29 +20,17 @@ event-words-requires c κs = search needs
 enum-known-answer-3 : tie.Need-enum-known-answer-3
 enum-known-answer-3 c = search needs
 
-cast-words : tie.Need-cast-words
-cast-words c = search needs
-
-cast-words-2 : tie.Need-cast-words-2
-cast-words-2 c = search needs
-
-cast-words-3 : tie.Need-cast-words-3
-cast-words-3 c = search needs
-
-cast-words-4 : tie.Need-cast-words-4
-cast-words-4 c = search needs
-
-words-requires-2 : tie.Need-words-requires-2
-words-requires-2 c κs = search needs
+ended-words-requires : tie.Need-ended-words-requires
+ended-words-requires c κs = search needs
 
 enum-known-answer-4 : tie.Need-enum-known-answer-4
 enum-known-answer-4 c = search needs
 
-cast-words-5 : tie.Need-cast-words-5
-cast-words-5 c = search needs
+cast-words : tie.Need-cast-words
+cast-words c = search needs
 
-words-requires-3 : tie.Need-words-requires-3
-words-requires-3 c κs = search needs
+words-requires-2 : tie.Need-words-requires-2
+words-requires-2 c κs = search needs
 
 returns : tie.Need-returns
 returns c = c .words .ensures ∙ ap answerWords (sym (c .before .before .answer .given .1))
@@ -51,10 +39,10 @@ returns-2 : tie.Need-returns-2
 returns-2 c = c .event-words .ensures ∙ ap answerWords (sym (c .before .before .answer2 .given .1))
 
 returns-3 : tie.Need-returns-3
-returns-3 c = c .words2 .ensures ∙ ap answerWords (sym (c .before .before .before .before .before .before .answer3 .given .1))
+returns-3 c = c .ended-words .ensures ∙ ap answerWords (sym (c .before .before .answer3 .given .1))
 
 returns-4 : tie.Need-returns-4
-returns-4 c = c .words3 .ensures ∙ ap answerWords (sym (c .before .before .answer4 .given .1))
+returns-4 c = c .words2 .ensures ∙ ap answerWords (sym (c .before .before .answer4 .given .1))
 
 pub answer-words-spec : {M : Type 1} → statement M
 answer-words-spec =
@@ -65,14 +53,10 @@ answer-words-spec =
     enum-known-answer-2
     event-words-requires
     enum-known-answer-3
-    cast-words
-    cast-words-2
-    cast-words-3
-    cast-words-4
-    words-requires-2
+    ended-words-requires
     enum-known-answer-4
-    cast-words-5
-    words-requires-3
+    cast-words
+    words-requires-2
     returns
     returns-2
     returns-3

@@ -1,13 +1,16 @@
 -- `receive_owned` meets its contract: the part decides, and the owner's bytes are what the slot's receive gives.
 use Rattle.block.proofs.Stored.{part-at}
 use Rattle.rnic.specs.Rnic.{receivedOwned, receivedOwnedStore}
-use Rattle.domain.specs.Domain.{domainReceived, domainReceivedBytes}
+use Rattle.rnic.specs.Rnic.{domainAt, withDomain, bytesOf}
+use Rattle.block.specs.Device.{rnicAt}
+use Rattle.domain.specs.declared.Received.{Received}
+use Rattle.device.proofs.Offered.{receives-lifted}
 use Rattle.memory.proofs.Laws.{fits-ends}
 use Rattle.memory.specs.declared.part.Part.{Part}
 use Rattle.memory.specs.Part.{partFits}
 use lib.ListN.{length}
 use borrow.Author.Tests.{le-leb}
-use Prim.Native.Nat.{_%_}
+use Prim.Native.Nat.{_/_, _%_}
 use native.Mathlib.Omega.{arith}
 use mathlib.Core.Path.{_≡_, refl, sym, ap, ap₂, subst, _∙_}
 use borrow.Author.Needs.{needs}
@@ -42,14 +45,15 @@ same-length : tie.Need-same-length
 same-length c = search needs
 
 returns : tie.Need-returns
-unfolding receivedOwned receivedOwnedStore domainReceived domainReceivedBytes
+unfolding receivedOwned receivedOwnedStore
 returns c =
     let a = c .before .before .before .before .before .before .before .before .before .before .before .before .before .args in
     let own = c .before .before .before .before .before .before .before .before .before .load-part .ensures ∙ sym (part-at (a .words .now) _ (search needs)) in
     let fits = ap (λ (p : Part). partFits p (length (a .store .now))) (sym own) ∙ sym (c .before .before .before .before .before .before .before .before .fits-in .ensures) ∙ c .before .before .before .before .before .before .before .if1 .taken in
     let k = le-leb (a .stream % 4) 3 (omega arith) in
     let e = c .before .before .receive-slot .ensures in
-    (simp (fits, k) (e .0), simp (fits, k) (e .1), simp (fits, k, e .2, own))
+    let t = receives-lifted (domainAt (rnicAt (a .words .now)) (a .stream / 4)) (a .stream / 4) (a .stream % 4) (a .bytes .now) (omega arith) in
+    (simp fits (e .0 ∙ ap (λ (r : Received). r .answer) (t .0)), simp fits (e .1 ∙ ap (λ (r : Received). withDomain (rnicAt (a .words .now)) (a .stream / 4) (r .domain)) (t .0)), simp (fits, e .2, own, t .1 (bytesOf (domainAt (rnicAt (a .words .now)) (a .stream / 4)) (a .store .now))))
 
 returns-2 : tie.Need-returns-2
 unfolding receivedOwned receivedOwnedStore

@@ -1,15 +1,10 @@
---
-use Rattle.device.proofs.Received.{not-ready, is-ready}
--- `receive_slot` meets its contract: the phase decides, and the rest is `receive_first`.
-use Rattle.rdmap.specs.declared.phase.Readiness.{Readiness}
-use Rattle.domain.specs.Parts.{partsWhen, partsBytesWhen, partsReceived, partsReceivedBytes}
-use Rattle.rdmap.specs.declared.framing.Framing.{Framing}
-use Rattle.rdmap.specs.Phase.{readiness}
-use Prim.Native.Nat.{ℕ}
-use mathlib.Core.List.{List}
-use mathlib.Core.Bool.{Bool}
-use mathlib.Core.Path.{_≡_, refl, sym, ap, ap₂, subst, _∙_}
+-- `receive_slot` meets its contract: the phase decides, then whether bytes are held, and the rest is `receive_first`.
+use mathlib.Core.Path.{sym, ap, _∙_}
 use borrow.Author.Needs.{needs}
+use borrow.Author.Tests.{lt-ltb, le-ltb}
+use Rattle.rdmap.specs.Phase.{readiness}
+use Rattle.device.proofs.Offered.{receives-none, receives-held, shut-none, ready-holds}
+use Rattle.device.proofs.Received.{not-ready, is-ready}
 use Rattle.device.proofs.receive.receive_slot.Statement.{statement}
 use Rattle.device.proofs.receive.receive_slot.Tie as tie
 
@@ -29,11 +24,22 @@ returns : tie.Need-returns
 returns c =
     let a = c .before .before .before .before .before .before .before .before .args in
     let h = c .before .before .before .before .before .before .before .before .pre in
-    not-ready (a .words .now) (a .domain) (a .slot) (a .part) (a .bytes .now) (a .store .now) (h .0) (h .1) _
-    (ap readiness (sym (c .before .before .before .before .load-phase .ensures)) ∙ sym (c .before .before .before .ready .ensures) ∙ c .before .number .given .1)
+    let e = ap readiness (sym (c .before .before .before .before .load-phase .ensures)) ∙ sym (c .before .before .before .ready .ensures) ∙ c .before .number .given .1 in
+    receives-none (a .words .now) (a .domain) (a .slot) (h .0) (h .1) (a .part) (a .bytes .now) (a .store .now) (a .words .now)
+    (shut-none (a .words .now) (a .domain) (a .slot) (h .0) (h .1) (a .part) (a .bytes .now) (a .store .now) _ e)
+    (not-ready (a .words .now) (a .domain) (a .slot) (a .part) (a .bytes .now) (a .store .now) (h .0) (h .1) _ e)
 
 load-framing-requires : tie.Need-load-framing-requires
 load-framing-requires c κs = search needs
+
+returns-2 : tie.Need-returns-2
+returns-2 c =
+    let a = c .before .before .before .before .before .before .before .before .before .before .before .args in
+    let h = c .before .before .before .before .before .before .before .before .before .before .before .pre in
+    let e = ap readiness (sym (c .before .before .before .before .before .before .before .load-phase .ensures)) ∙ sym (c .before .before .before .before .before .before .ready .ensures) ∙ c .before .before .before .before .enum-told .given .1 in
+    let f = c .before .before .load-framing in
+    receives-held (a .words .now) (a .domain) (a .slot) (h .0) (h .1) (a .part) (a .bytes .now) (a .store .now)
+    (ready-holds (a .words .now) (a .domain) (a .slot) (h .0) (h .1) (a .part) (a .bytes .now) (a .store .now) e (f .result) (f .ensures) ∙ lt-ltb _ _ (c .if1 .taken))
 
 receive-first-requires : tie.Need-receive-first-requires
 receive-first-requires c κs = search needs
@@ -41,13 +47,15 @@ receive-first-requires c κs = search needs
 same-length : tie.Need-same-length
 same-length c = search needs
 
-returns-2 : tie.Need-returns-2
-returns-2 c =
-    let a = c .before .before .before .before .before .before .before .before .before .before .before .before .before .before .args in
-    let h = c .before .before .before .before .before .before .before .before .before .before .before .before .before .before .pre in
-    is-ready (a .words .now) (a .domain) (a .slot) (a .part) (a .bytes .now) (a .store .now) (h .0) (h .1) (c .before .before .receive-first .last .0) (c .before .before .before .before .before .load-framing .result)
-    (ap readiness (sym (c .before .before .before .before .before .before .before .before .before .before .load-phase .ensures)) ∙ sym (c .before .before .before .before .before .before .before .before .before .ready .ensures) ∙ c .before .before .before .before .before .before .before .enum-told .given .1)
-    (c .before .before .before .before .before .load-framing .ensures) (c .before .before .receive-first .ensures)
+returns-3 : tie.Need-returns-3
+returns-3 c =
+    let a = c .before .before .before .before .before .before .before .before .before .before .before .before .before .before .before .before .args in
+    let h = c .before .before .before .before .before .before .before .before .before .before .before .before .before .before .before .before .pre in
+    let e = ap readiness (sym (c .before .before .before .before .before .before .before .before .before .before .before .before .load-phase .ensures)) ∙ sym (c .before .before .before .before .before .before .before .before .before .before .before .ready .ensures) ∙ c .before .before .before .before .before .before .before .before .before .enum-told .given .1 in
+    let f = c .before .before .before .before .before .before .before .load-framing in
+    receives-none (a .words .now) (a .domain) (a .slot) (h .0) (h .1) (a .part) (a .bytes .now) (a .store .now) (c .before .before .receive-first .last .0)
+    (ready-holds (a .words .now) (a .domain) (a .slot) (h .0) (h .1) (a .part) (a .bytes .now) (a .store .now) e (f .result) (f .ensures) ∙ le-ltb _ _ (c .before .before .before .before .before .if1 .left))
+    (is-ready (a .words .now) (a .domain) (a .slot) (a .part) (a .bytes .now) (a .store .now) (h .0) (h .1) (c .before .before .receive-first .last .0) (f .result) e (f .ensures) (c .before .before .receive-first .ensures))
 
 pub receive-slot-spec : {M : Type 1} → statement M
 receive-slot-spec =
@@ -59,6 +67,7 @@ receive-slot-spec =
     enum-known-number
     returns
     load-framing-requires
+    returns-2
     receive-first-requires
     same-length
-    returns-2)
+    returns-3)

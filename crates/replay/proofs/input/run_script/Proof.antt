@@ -6,7 +6,7 @@ use Rattle.replay.proofs.input.run_script.Statement.{statement}
 use Rattle.replay.proofs.input.run_script.Tie as tie
 
 abbrev Inv-loop : tie.InvT-loop
-Inv-loop device₀ message₀ held₀ chunk₀ line₀ bytes₀ frame₀ store₀ text₀ out₀ turns₀ reached₀ device message held chunk line bytes frame store text out turns reached =
+Inv-loop device₀ message₀ held₀ chunk₀ line₀ bytes₀ frame₀ store₀ rooms₀ text₀ out₀ turns₀ reached₀ device message held chunk line bytes frame store rooms text out turns reached =
     (length chunk ≡ length chunk₀)
     × (length held ≡ length held₀)
     × (length line ≡ length line₀)
@@ -17,7 +17,7 @@ Inv-loop device₀ message₀ held₀ chunk₀ line₀ bytes₀ frame₀ store�
     × (length out ≡ length out₀)
 
 abbrev μ-loop : tie.MeasureT-loop
-μ-loop device₀ message₀ held₀ chunk₀ line₀ bytes₀ frame₀ store₀ text₀ out₀ turns₀ reached₀ device message held chunk line bytes frame store text out turns reached =
+μ-loop device₀ message₀ held₀ chunk₀ line₀ bytes₀ frame₀ store₀ rooms₀ text₀ out₀ turns₀ reached₀ device message held chunk line bytes frame store rooms text out turns reached =
     turns
 
 first-state-requires : tie.Need-first-state-requires Inv-loop μ-loop

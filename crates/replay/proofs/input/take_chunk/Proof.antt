@@ -11,7 +11,7 @@ use Rattle.replay.proofs.input.take_chunk.Statement.{statement}
 use Rattle.replay.proofs.input.take_chunk.Tie as tie
 
 abbrev Inv-loop : tie.InvT-loop
-Inv-loop device₀ message₀ held₀ chunk line₀ bytes₀ frame₀ store₀ text₀ out₀ run₀ count₀ i₀ device message held line bytes frame store text out run count i =
+Inv-loop device₀ message₀ held₀ chunk line₀ bytes₀ frame₀ store₀ rooms₀ text₀ out₀ run₀ count₀ i₀ device message held line bytes frame store rooms text out run count i =
     (i ≤ length chunk)
     × (run .gathered ≤ length out)
     × (length held ≡ length held₀)
@@ -23,7 +23,7 @@ Inv-loop device₀ message₀ held₀ chunk line₀ bytes₀ frame₀ store₀ t
     × (length out ≡ length out₀)
 
 abbrev μ-loop : tie.MeasureT-loop
-μ-loop device₀ message₀ held₀ chunk line₀ bytes₀ frame₀ store₀ text₀ out₀ run₀ count₀ i₀ device message held line bytes frame store text out run count i =
+μ-loop device₀ message₀ held₀ chunk line₀ bytes₀ frame₀ store₀ rooms₀ text₀ out₀ run₀ count₀ i₀ device message held line bytes frame store rooms text out run count i =
     length chunk - i
 
 loop-holds : tie.Need-loop-holds Inv-loop μ-loop
@@ -58,12 +58,13 @@ run-line-requires c κs = search needs
 
 loop-less : tie.Need-loop-less Inv-loop μ-loop
 loop-less c =
-    let w = end-within _ _ _ (c .before .before .before .before .before .before .before .before .before .before .before .before .before .before .before .before .before .before .before .before .before .before .before .before .before .before .before .before .before .loop-test .taken) (c .before .before .before .before .before .before .before .before .before .before .before .before .before .before .before .before .before .before .before .before .before .before .before .before .before .before .before .before .line-end .ensures) in
+    let w = end-within _ _ _ (c .before .before .before .before .before .before .before .before .before .before .before .before .before .before .before .before .before .before .before .before .before .before .before .before .before .before .before .before .before .before .loop-test .taken) (c .before .before .before .before .before .before .before .before .before .before .before .before .before .before .before .before .before .before .before .before .before .before .before .before .before .before .before .before .before .line-end .ensures) in
     search needs
 
 loop-again : tie.Need-loop-again Inv-loop μ-loop
 loop-again c =
-    let w = end-within _ _ _ (c .before .before .before .before .before .before .before .before .before .before .before .before .before .before .before .before .before .before .before .before .before .before .before .before .before .before .before .before .before .loop-test .taken) (c .before .before .before .before .before .before .before .before .before .before .before .before .before .before .before .before .before .before .before .before .before .before .before .before .before .before .before .before .line-end .ensures) in
+    let w = end-within _ _ _ (c .before .before .before .before .before .before .before .before .before .before .before .before .before .before .before .before .before .before .before .before .before .before .before .before .before .before .before .before .before .before .loop-test .taken) (c .before .before .before .before .before .before .before .before .before .before .before .before .before .before .before .before .before .before .before .before .before .before .before .before .before .before .before .before .before .line-end .ensures) in
+    let v = c .before .before .before .before .before .before .before .before .before .before .before .before .before .before .before .before .before .before .before .before .before .before .before .before .before .before .before .before .before .before .before .loop .inv in
     search needs
 
 flush-requires : tie.Need-flush-requires Inv-loop μ-loop

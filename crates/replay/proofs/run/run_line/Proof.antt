@@ -1,15 +1,21 @@
--- `run_line` meets its contract: a command on messages is run on the message and on nothing else, and every other line as `run_asked` does it.
-use mathlib.Core.Path.{refl, sym, _∙_}
-use lib.ListN.{length, take}
+-- `run_line` meets its contract: a command on offers is run as `run_offering` does it, and every other line as `run_other` does it.
+use mathlib.Core.Path.{sym, _∙_}
 use lib.Seq.{length-take-le}
-use borrow.Author.Tests.{le-leb, lt-leb}
-use Rattle.replay.proofs.Sent.{sent-text}
 use borrow.Author.Needs.{needs}
+use Rattle.replay.proofs.Offers.{offers-fit, offers-unsent}
 use Rattle.replay.proofs.run.run_line.Statement.{statement}
 use Rattle.replay.proofs.run.run_line.Tie as tie
 
-run-asked-requires : tie.Need-run-asked-requires
-run-asked-requires c κs = search needs
+offers-requires : tie.Need-offers-requires
+offers-requires c κs = search needs
+
+slice-aggregate-run-offering : tie.Need-slice-aggregate-run-offering
+slice-aggregate-run-offering c =
+    let a = c .before .before .before .before .before .before .before .before .before .before .before .args in
+    sym (length-take-le _ _ (offers-fit (a .line .now) (a .count) (sym (c .before .before .before .offers .ensures) ∙ c .before .before .if1 .taken)))
+
+run-offering-requires : tie.Need-run-offering-requires
+run-offering-requires c κs = search needs
 
 same-length : tie.Need-same-length
 same-length c = search needs
@@ -23,30 +29,19 @@ same-length-3 c = search needs
 same-length-4 : tie.Need-same-length-4
 same-length-4 c = search needs
 
-same-length-5 : tie.Need-same-length-5
-same-length-5 c = search needs
-
 returns : tie.Need-returns
 returns c =
     let a = c .before .before .before .before .before .before .before .before .before .before .before .before .before .before .before .before .before .before .before .before .before .before .before .before .before .args in
-    let t = lt-leb (a .count) (length (a .line .now)) (c .before .before .before .before .before .before .before .before .before .before .before .before .before .before .before .before .before .if1 .taken) in
-    let r = c .before .before .before .before .before .before .before .before .before .before .run-asked .ensures in
-    (r .0, (r .1 .0, (r .1 .1, (rw t, rw t))))
+    let t = sym (c .before .before .before .before .before .before .before .before .before .before .before .before .before .before .before .before .before .offers .ensures) ∙ c .before .before .before .before .before .before .before .before .before .before .before .before .before .before .before .before .if1 .taken in
+    let u = offers-unsent (a .line .now) (a .count) t in
+    let o = c .before .before .before .before .before .before .before .before .run-offering .ensures in
+    (o .0, (rw t (o .1 .0), (rw t (o .1 .1 .0), (rw t (o .1 .1 .1), (rw u, rw u)))))
 
-slice-aggregate-is-sending : tie.Need-slice-aggregate-is-sending
-slice-aggregate-is-sending c = sym (length-take-le _ _ (search needs))
+run-other-requires : tie.Need-run-other-requires
+run-other-requires c κs = search needs
 
-is-sending-requires : tie.Need-is-sending-requires
-is-sending-requires c κs = search needs
-
-slice-aggregate-run : tie.Need-slice-aggregate-run
-slice-aggregate-run c = sym (length-take-le _ _ (search needs))
-
-run-requires : tie.Need-run-requires
-run-requires c κs = search needs
-
-print-answer-requires : tie.Need-print-answer-requires
-print-answer-requires c κs = search needs
+same-length-5 : tie.Need-same-length-5
+same-length-5 c = search needs
 
 same-length-6 : tie.Need-same-length-6
 same-length-6 c = search needs
@@ -65,65 +60,27 @@ same-length-10 c = search needs
 
 returns-2 : tie.Need-returns-2
 returns-2 c =
-    let a = c .before .before .before .before .before .before .before .before .before .before .before .before .before .before .before .before .before .before .before .before .before .before .before .before .before .before .before .before .before .before .before .before .before .args in
-    let t = le-leb (a .count) (length (a .line .now)) (c .before .before .before .before .before .before .before .before .before .before .before .before .before .before .before .before .before .before .before .before .before .before .before .before .before .if1 .left) in
-    let s = sym (c .before .before .before .before .before .before .before .before .before .before .before .before .before .before .before .before .before .before .before .before .before .before .before .is-sending .ensures) ∙ c .before .before .before .before .before .before .before .before .before .before .before .before .before .before .before .before .before .before .before .before .before .before .if2 .taken in
-    let q = sent-text (a .run .kept) (length (a .bytes .now)) (length (a .store .now)) (take (a .count) (a .line .now)) s in
-    let g = c .before .before .before .before .before .before .before .before .before .before .before .before .before .before .before .run .ensures in
-    (c .before .before .before .before .print-answer .ensures, (rw (t, q), (rw (t, q), (rw (t, s) (g .1 .0), rw (t, s) (g .1 .1)))))
-
-run-asked-requires-2 : tie.Need-run-asked-requires-2
-run-asked-requires-2 c κs = search needs
-
-same-length-11 : tie.Need-same-length-11
-same-length-11 c = search needs
-
-same-length-12 : tie.Need-same-length-12
-same-length-12 c = search needs
-
-same-length-13 : tie.Need-same-length-13
-same-length-13 c = search needs
-
-same-length-14 : tie.Need-same-length-14
-same-length-14 c = search needs
-
-same-length-15 : tie.Need-same-length-15
-same-length-15 c = search needs
-
-returns-3 : tie.Need-returns-3
-returns-3 c =
-    let a = c .before .before .before .before .before .before .before .before .before .before .before .before .before .before .before .before .before .before .before .before .before .before .before .before .before .before .before .before .args in
-    let t = le-leb (a .count) (length (a .line .now)) (c .before .before .before .before .before .before .before .before .before .before .before .before .before .before .before .before .before .before .before .before .if1 .left) in
-    let s = sym (c .before .before .before .before .before .before .before .before .before .before .before .before .before .before .before .before .before .before .is-sending .ensures) ∙ c .before .before .before .before .before .before .before .before .before .before .before .before .before .before .before .before .before .if2 .left in
-    let r = c .before .before .before .before .before .before .before .before .before .before .run-asked2 .ensures in
-    (r .0, (r .1 .0, (r .1 .1, (rw (t, s), rw (t, s)))))
+    let t = sym (c .before .before .before .before .before .before .before .before .before .before .before .before .before .before .before .before .before .before .before .before .before .before .offers .ensures) ∙ c .before .before .before .before .before .before .before .before .before .before .before .before .before .before .before .before .before .before .before .before .before .if1 .left in
+    let r = c .before .before .before .before .before .before .before .before .before .before .before .before .run-other .ensures in
+    (r .0, (rw t (r .1 .0), (rw t (r .1 .1 .0), (rw t, (r .1 .1 .1 .0, r .1 .1 .1 .1)))))
 
 pub run-line-spec : {M : Type 1} → statement M
 run-line-spec =
     tie.close
     (tie.spec
-    run-asked-requires
+    offers-requires
+    slice-aggregate-run-offering
+    run-offering-requires
     same-length
     same-length-2
     same-length-3
     same-length-4
-    same-length-5
     returns
-    slice-aggregate-is-sending
-    is-sending-requires
-    slice-aggregate-run
-    run-requires
-    print-answer-requires
+    run-other-requires
+    same-length-5
     same-length-6
     same-length-7
     same-length-8
     same-length-9
     same-length-10
-    returns-2
-    run-asked-requires-2
-    same-length-11
-    same-length-12
-    same-length-13
-    same-length-14
-    same-length-15
-    returns-3)
+    returns-2)

@@ -1,0 +1,5 @@
+pub mod Gathered
+pub mod Held
+pub mod Machine
+pub mod Pending
+pub mod Rooms
