@@ -52,8 +52,8 @@ struct rnic {
 #define RNIC_C_WORDS 8
 
 /* How many bytes a stream's room has, that of the longest FPDU, and the rooms of all sixteen streams, one after the other. */
-#define RNIC_C_ROOM 2056
-#define RNIC_C_ROOMS 32896
+#define RNIC_C_ROOM 8200
+#define RNIC_C_ROOMS 131200
 
 /* The calls, with the numbers that each takes of a[0] to a[8]; it looks at no other. */
 enum rnic_call {
@@ -169,7 +169,7 @@ enum rnic_written {
 
 /* Begins a Write of so many bytes to an STag and a tagged offset, in ULPDUs of at most limit bytes. It answers 0, or a
  * refusal's number, and then *message stays: 1 for a limit below 19, an STag or a length over 2^32 - 1, or an end past 2^64;
- * 12 for a limit above 2,048. */
+ * 12 for a limit above 8,192. */
 uint32_t rnic_c_message_write(struct rnic_message *message, uint64_t limit, uint64_t stag, uint64_t to, uint64_t length);
 
 /* Begins a Send: opcode 3, 4 with Invalidate, 5 with Solicited Event, 6 with both. The STag is the one to invalidate, and is
@@ -184,7 +184,7 @@ void rnic_c_message_next(struct rnic_message *message, const uint8_t *bytes, siz
                          size_t out_length, uint64_t answer[RNIC_C_WRITTEN_WORDS]);
 
 /* Writes the FPDU of a ULPDU to the start of out: its length, the ULPDU, the pad and the CRC. Refused: 12 for a ULPDU over
- * 2,048 bytes, 13 where out is too short. */
+ * 8,192 bytes, 13 where out is too short. */
 void rnic_c_fpdu_write(const uint8_t *ulpdu, size_t ulpdu_length, uint8_t *out, size_t out_length,
                        uint64_t answer[RNIC_C_WRITTEN_WORDS]);
 

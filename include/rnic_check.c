@@ -210,7 +210,7 @@ static void next(const char *what, struct rnic_message *message, const uint8_t *
 
 /* A Send of 2,048 bytes at 1,500: 1,482 and 566. Refusals leave the message before, and the output as it is. */
 static void check_message(void) {
-    static uint8_t bytes[2048], out[2048], frame[2056];
+    static uint8_t bytes[2048], out[2048], longest[8192], frame[RNIC_C_ROOM];
     struct rnic_message three[3], *message = &three[1], kept;
     uint64_t answer[RNIC_C_WRITTEN_WORDS];
     memset(three, 0xA5, sizeof three);
@@ -225,7 +225,7 @@ static void check_message(void) {
     expect_number("message_send, opcode", rnic_c_message_send(message, 1500, 7, 1, 0, 5), 1);
     expect_number("message_write, limit", rnic_c_message_write(message, 18, 0, 0, 5), 1);
     expect_number("message_write, end", rnic_c_message_write(message, 40, 0, ~0ull, 2), 1);
-    expect_number("message_write, above", rnic_c_message_write(message, 2049, 0, 0, 5), 12);
+    expect_number("message_write, above", rnic_c_message_write(message, 8193, 0, 0, 5), 12);
     next("message_next, length", message, bytes, 2047, out, sizeof out, RNIC_NOT_WRITTEN, 1);
     next("message_next, room", message, bytes, 2048, out, 1499, RNIC_NOT_WRITTEN, 13);
     if (memcmp(&kept, message, sizeof kept) != 0 || out[0] != 0xA5) {
@@ -246,10 +246,13 @@ static void check_message(void) {
         wrong = 1;
     }
     next("message_next, after", message, bytes, 2048, out, 0, RNIC_NO_MORE, 0);
-    rnic_c_fpdu_write(frame, 2049, out, 0, answer);
+    rnic_c_fpdu_write(frame, sizeof longest + 1, out, 0, answer);
     expect_number("fpdu_write, too long", answer[1], 12);
-    rnic_c_fpdu_write(bytes, 2048, frame, 2055, answer);
+    rnic_c_fpdu_write(longest, sizeof longest, frame, sizeof frame - 1, answer);
     expect_number("fpdu_write, room", answer[1], 13);
+    rnic_c_fpdu_write(longest, sizeof longest, frame, sizeof frame, answer);
+    expect_number("fpdu_write, the longest", answer[0], RNIC_WROTE);
+    expect_number("fpdu_write, the longest one's length", answer[1], RNIC_C_ROOM);
     expect_number("message_write", rnic_c_message_write(message, 19, 7, 8, 0), 0);
     next("message_next, empty", message, bytes, 0, out, 14, RNIC_WROTE, 14);
     expect_number("message_next, empty", out[0], 0xC1);

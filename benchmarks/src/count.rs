@@ -112,7 +112,7 @@ fn writes() -> Vec<Counted> {
         Step::ReceiveHalf(STREAM),
     )];
     for crc in [false, true] {
-        for size in [0, 64, 2034] {
+        for size in [0, 64, 2034, 8178] {
             let setting = if crc { ", CRC on" } else { "" };
             let name = format!("receive: Write of {} bytes{setting}", grouped(size as u64));
             let act = act!("", [RECEIVE], frame(&write_of(size).ulpdu(), 0));
@@ -166,7 +166,7 @@ fn offers() -> Vec<Counted> {
     let (crc_field, nothing) = (Step::OfferCrc(STREAM), Step::OfferNothing(STREAM));
     let mut counted = Vec::new();
     for crc in [false, true] {
-        for size in [64, 2034] {
+        for size in [64, 2034, 8178] {
             let setting = if crc { ", CRC on" } else { "" };
             let name = format!("Write of {} bytes{setting}", grouped(size as u64));
             let bytes = frame(&write_of(size).ulpdu(), 0);

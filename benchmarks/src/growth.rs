@@ -22,7 +22,7 @@ fn bytes() {
         "eight tables, CRC on",
     ];
     table::head(&["payload"], &columns);
-    let payloads = [0, 256, 512, 1024, 1536, 2034];
+    let payloads = [0, 256, 512, 1024, 1536, 2034, 8178];
     let mut points: [Vec<(f64, f64)>; 5] = Default::default();
     for payload in payloads {
         let [off, on] = [false, true].map(|crc| compare(Scene::of(Kind::Write, payload, crc)));

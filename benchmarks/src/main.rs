@@ -12,6 +12,7 @@ mod measure;
 mod messages;
 mod nights;
 mod offers;
+mod placed;
 mod receive;
 mod receiver;
 mod refusals;

@@ -74,7 +74,7 @@ fn row(name: &str, crc: bool, calls: Vec<Call>) {
     cells.push(table::grouped(calls.len() as u64));
     let percent = format!("{percent:.0} %");
     cells.extend(table::compared(percent, &times[0], &times[1]));
-    cells.extend(table::eight(&times[0], times.get(2)));
+    cells.extend(table::with_crc(&times[0], times.get(2)));
     table::row(&cells);
 }
 

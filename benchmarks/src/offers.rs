@@ -8,6 +8,7 @@ use oracle::state::Device as Second;
 
 use crate::growth::slope;
 use crate::measure::{measure, repeated, Work};
+use crate::placed::{self, Placed};
 use crate::receive::on_off;
 use crate::receiver::{Ours, Outcome, Receiver};
 use crate::scene::{Kind, Scene, FRAMES};
@@ -46,13 +47,15 @@ pub fn write() {
         "offer ÷ second's",
     ];
     table::head(&["payload", "CRC", "offered"], &columns);
-    for payload in [64, 2034] {
+    for payload in [64, 2034, 8178] {
         for crc in [false, true] {
             row(Scene::of(Kind::Write, payload, crc), Cut::Whole);
         }
     }
-    for crc in [false, true] {
-        row(Scene::of(Kind::Write, 2034, crc), Cut::BeforeCrc);
+    for payload in [2034, 8178] {
+        for crc in [false, true] {
+            row(Scene::of(Kind::Write, payload, crc), Cut::BeforeCrc);
+        }
     }
     bytes();
 }
@@ -60,6 +63,7 @@ pub fn write() {
 /// Times offers of one scene beside receives of it, and writes the row.
 fn row(scene: Scene, cut: Cut) {
     let frames = scene.frames();
+    let frames = placed::slices(&frames);
     check(scene, &frames, cut);
     let mut contenders = [
         offering::<Ours>(scene, &frames, cut),
@@ -92,12 +96,13 @@ fn bytes() {
     ];
     table::head(&["payload"], &columns);
     let mut points: [Vec<(f64, f64)>; 4] = Default::default();
-    for payload in [64, 512, 2034] {
+    for payload in [64, 512, 2034, 8178] {
         let mut cells = vec![table::grouped(payload as u64)];
         let mut points = points.iter_mut();
         for crc in [false, true] {
             let scene = Scene::of(Kind::Write, payload, crc);
             let frames = scene.frames();
+            let frames = placed::slices(&frames);
             check(scene, &frames, Cut::Bytes);
             let mut contenders = [
                 offering::<Ours>(scene, &frames, Cut::Bytes),
@@ -117,20 +122,21 @@ fn bytes() {
 }
 
 /// Gives the offering of the frames as work, all of which must be completed.
-fn offering<R: Receiver + 'static>(scene: Scene, frames: &[Vec<u8>], cut: Cut) -> Work<'_> {
-    let (mut device, mut rooms): (R, Rooms) = (scene.device(), Rooms::new());
-    let mut store = vec![0; scene.store as usize];
-    let mut completed = move |bytes: &[u8]| {
-        let outcome = device.offer(&mut store, &mut rooms, 0, black_box(bytes));
-        matches!(outcome, Outcome::Completed { .. })
-    };
-    if cut == Cut::Whole {
-        return repeated(move || {
+fn offering<'a, R: Receiver + 'static>(scene: Scene, frames: &'a [&[u8]], cut: Cut) -> Work<'a> {
+    let mut device: R = scene.device();
+    let mut rooms = Placed::zeros(placed::ROOMS, Rooms::new().len());
+    let mut store = Placed::zeros(placed::STORE, scene.store as usize);
+    repeated(move || {
+        let (store, rooms) = (&mut store[..], &mut rooms[..]);
+        let mut completed = |bytes: &[u8]| {
+            let outcome = device.offer(store, rooms, 0, black_box(bytes));
+            matches!(outcome, Outcome::Completed { .. })
+        };
+        if cut == Cut::Whole {
             let completed = frames.iter().filter(|bytes| completed(bytes));
             assert_eq!(completed.count(), frames.len(), "an FPDU was not taken");
-        });
-    }
-    repeated(move || {
+            return;
+        }
         for bytes in frames {
             let pieces = bytes.chunks(cut.length(bytes.len()));
             let completed = pieces.filter(|piece| completed(piece));
@@ -140,7 +146,7 @@ fn offering<R: Receiver + 'static>(scene: Scene, frames: &[Vec<u8>], cut: Cut) -
 }
 
 /// Offers the frames once to both programs, whose answers and stores must be the same, and those of receive.
-fn check(scene: Scene, frames: &[Vec<u8>], cut: Cut) {
+fn check(scene: Scene, frames: &[&[u8]], cut: Cut) {
     let mut device: Ours = scene.device();
     let (mut second, mut whole): (Second, Ours) = (scene.device(), scene.device());
     let mut stores = [(); 3].map(|()| vec![0; scene.store as usize]);

@@ -1,5 +1,7 @@
 //! The receivers that are compared, each set up by the same calls.
 
+use std::marker::PhantomData;
+
 use host::{Error, Offered, Received, Window};
 use oracle::mpa::{read_fpdu, Frame, CRC_FIELD};
 use oracle::offer::Offered as SecondOffered;
@@ -238,13 +240,42 @@ impl Receiver for Second {
     }
 }
 
-/// The second program with its CRC by eight tables: its own check is off, and the bytes are checked before it.
-pub struct Eight {
-    device: Second,
-    checked: [bool; STREAMS],
+/// A routine for the CRC.
+pub trait Routine {
+    /// Gives the CRC of some bytes.
+    fn crc(bytes: &[u8]) -> u32;
 }
 
-impl Eight {
+/// The CRC by eight tables.
+pub struct EightTables;
+
+impl Routine for EightTables {
+    fn crc(bytes: &[u8]) -> u32 {
+        eight_tables(bytes)
+    }
+}
+
+/// The library's own CRC.
+pub struct OurRoutine;
+
+impl Routine for OurRoutine {
+    fn crc(bytes: &[u8]) -> u32 {
+        host::crc32c(bytes)
+    }
+}
+
+/// The second program with its CRC by eight tables, and with ours.
+pub type Eight = Checked<EightTables>;
+pub type Same = Checked<OurRoutine>;
+
+/// The second program with another CRC: its own check is off, and the bytes are checked before it.
+pub struct Checked<C> {
+    device: Second,
+    checked: [bool; STREAMS],
+    routine: PhantomData<C>,
+}
+
+impl<C: Routine> Checked<C> {
     /// Says whether the second program would look at a stream's bytes, and at their CRC: no refusal of the host's call is
     /// asked before it.
     fn checks(&self, store: &[u8], stream: u64) -> bool {
@@ -261,7 +292,7 @@ impl Eight {
             return false;
         };
         let (covered, crc) = bytes[..total].split_at(total - CRC_FIELD);
-        crc != eight_tables(covered).to_le_bytes()
+        crc != C::crc(covered).to_le_bytes()
     }
 
     /// Says whether a stream holds bytes.
@@ -278,11 +309,12 @@ impl Eight {
     }
 }
 
-impl Receiver for Eight {
+impl<C: Routine> Receiver for Checked<C> {
     fn new() -> Self {
-        Eight {
+        Checked {
             device: Second::default(),
             checked: [false; STREAMS],
+            routine: PhantomData,
         }
     }
 
@@ -327,7 +359,7 @@ impl Receiver for Eight {
     }
 
     fn receive(&mut self, store: &mut [u8], stream: u64, bytes: &[u8]) -> Outcome {
-        if self.checks(store, stream) && !self.holds(stream) && Eight::is_wrong(bytes) {
+        if self.checks(store, stream) && !self.holds(stream) && Self::is_wrong(bytes) {
             return self.end(stream);
         }
         Receiver::receive(&mut self.device, store, stream, bytes)
@@ -336,9 +368,9 @@ impl Receiver for Eight {
     fn offer(&mut self, store: &mut [u8], rooms: &mut [u8], stream: u64, bytes: &[u8]) -> Outcome {
         if self.checks(store, stream) && rooms.len() == HELD {
             let wrong = match self.holds(stream) {
-                false => Eight::is_wrong(bytes),
+                false => Self::is_wrong(bytes),
                 true => {
-                    Eight::is_wrong(&[&self.device.streams[stream as usize].held, bytes].concat())
+                    Self::is_wrong(&[&self.device.streams[stream as usize].held, bytes].concat())
                 }
             };
             if wrong {

@@ -10,14 +10,16 @@ use oracle::rdmap;
 use oracle::state::{STREAMS_PER_DOMAIN, WINDOWS_PER_DOMAIN};
 
 use crate::bed::RIGHTS;
+use crate::placed::{self, Placed};
 use crate::receiver::{Outcome, Receiver};
 
 /// FPDUs of a scene, as many as buffers can wait on a stream.
 pub const FRAMES: u64 = 8;
 /// Streams that the Sends go to in turn, all of one domain.
 pub const SEND_STREAMS: u64 = 4;
-/// Bytes of each of the first domain's windows, which stand at the front of the store; the buffers stand behind them.
-pub const ROOM: u64 = 2048;
+/// Bytes of each of the first domain's windows, which stand at the front of the store; the buffers stand behind them. In a
+/// small store they have half of it.
+pub const ROOM: u64 = 8192;
 /// Bytes of each of the first domain's buffers where no Send uses them.
 const UNUSED: u64 = 32;
 /// The least bytes of a buffer that a Send uses; each starts at a multiple of so many.
@@ -66,7 +68,7 @@ impl Scene {
     }
 
     /// Writes the FPDUs: Writes to offsets that rise by a byte, or Sends of one segment with rising MSNs.
-    pub fn frames(&self) -> Vec<Vec<u8>> {
+    pub fn frames(&self) -> Vec<Placed> {
         let mut prng = Prng::new(1);
         let segment = |number| {
             let mut draft = Draft::new(self.kind == Kind::Write, rdmap::WRITE);
@@ -76,7 +78,7 @@ impl Scene {
                 (draft.opcode, draft.msn) = (rdmap::SEND, number as u32 + 1);
             }
             draft.payload = prng.bytes(self.payload);
-            frame(&draft.ulpdu(), 0)
+            Placed::copy(placed::FPDU, &frame(&draft.ulpdu(), 0))
         };
         (0..FRAMES).map(segment).collect()
     }
@@ -103,10 +105,15 @@ impl Scene {
         }
     }
 
+    /// Gives the length of the first domain's windows.
+    fn room(&self) -> u64 {
+        ROOM.min(self.store / 2)
+    }
+
     /// Gives the place and the length of a window.
     fn window(&self, number: u64) -> (u64, u64) {
         let (domain, slot) = (number / DOMAIN_WINDOWS, number % DOMAIN_WINDOWS);
-        let length = if domain == 0 { ROOM } else { SMALL };
+        let length = if domain == 0 { self.room() } else { SMALL };
         (self.part(domain).0 + slot * length, length)
     }
 
@@ -119,7 +126,7 @@ impl Scene {
             _ => SMALL,
         };
         let windows = match domain {
-            0 => self.windows.min(DOMAIN_WINDOWS) * ROOM,
+            0 => self.windows.min(DOMAIN_WINDOWS) * self.room(),
             _ => DOMAIN_WINDOWS * SMALL,
         };
         let start = self.part(domain).0 + windows;

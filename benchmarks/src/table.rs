@@ -26,10 +26,10 @@ pub fn ratio(ours: &Times, other: &Times) -> String {
     format!("{:.2}", ours.ratio(other))
 }
 
-/// Gives the cells of the second program with eight tables, where it was timed, and of the ratio to it.
-pub fn eight(ours: &Times, eight: Option<&Times>) -> [String; 2] {
-    match eight {
-        Some(eight) => [times(eight), ratio(ours, eight)],
+/// Gives the cells of the second program with another CRC, where it was timed, and of the ratio to it.
+pub fn with_crc(ours: &Times, other: Option<&Times>) -> [String; 2] {
+    match other {
+        Some(other) => [times(other), ratio(ours, other)],
         None => [NONE, NONE].map(String::from),
     }
 }

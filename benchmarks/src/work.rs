@@ -6,22 +6,26 @@ use std::time::{Duration, Instant};
 use oracle::state::Device as Second;
 
 use crate::measure::{measure, repeated, Times, Work};
-use crate::receiver::{Eight, Ours, Outcome, Receiver};
+use crate::placed::{self, Placed};
+use crate::receiver::{Eight, Ours, Outcome, Receiver, Same};
 use crate::scene::{Kind, Scene, FRAMES, SEND_STREAMS};
 
-/// The times of a scene's contenders; the second program with eight tables is one where the CRC is on.
+/// The times of a scene's contenders; the second program with eight tables, and with our CRC, is one where the CRC is on.
 pub struct Compared {
     pub ours: Times,
     pub second: Times,
     pub copying: Times,
     pub eight: Option<Times>,
+    pub same: Option<Times>,
 }
 
 /// Times the receivers and the copying alone on one scene, once the receivers have agreed on it.
 pub fn compare(scene: Scene) -> Compared {
     let frames = scene.frames();
+    let frames = placed::slices(&frames);
     check::<Second>(scene, &frames);
     check::<Eight>(scene, &frames);
+    check::<Same>(scene, &frames);
     let mut contenders = vec![
         receiving::<Ours>(scene, &frames),
         receiving::<Second>(scene, &frames),
@@ -29,6 +33,7 @@ pub fn compare(scene: Scene) -> Compared {
     ];
     if scene.crc {
         contenders.push(receiving::<Eight>(scene, &frames));
+        contenders.push(receiving::<Same>(scene, &frames));
     }
     let mut times = measure(FRAMES * streams(scene), &mut contenders).into_iter();
     let mut next = || times.next().expect("a time for each contender");
@@ -37,6 +42,7 @@ pub fn compare(scene: Scene) -> Compared {
         second: next(),
         copying: next(),
         eight: times.next(),
+        same: times.next(),
     }
 }
 
@@ -49,9 +55,9 @@ fn streams(scene: Scene) -> u64 {
 }
 
 /// Gives the receiving as work; the streams of Sends are opened anew between, while the clock stands.
-pub fn receiving<R: Receiver + 'static>(scene: Scene, frames: &[Vec<u8>]) -> Work<'_> {
+pub fn receiving<'a, R: Receiver + 'static>(scene: Scene, frames: &'a [&[u8]]) -> Work<'a> {
     let mut device: R = scene.device();
-    let mut store = vec![0; scene.store as usize];
+    let mut store = Placed::zeros(placed::STORE, scene.store as usize);
     if scene.kind == Kind::Write {
         return repeated(move || receive_all(&mut device, &mut store, 0, frames));
     }
@@ -70,7 +76,7 @@ pub fn receiving<R: Receiver + 'static>(scene: Scene, frames: &[Vec<u8>]) -> Wor
 }
 
 /// Receives the frames on a stream, all of which must be taken.
-fn receive_all<R: Receiver>(device: &mut R, store: &mut [u8], stream: u64, frames: &[Vec<u8>]) {
+fn receive_all<R: Receiver>(device: &mut R, store: &mut [u8], stream: u64, frames: &[&[u8]]) {
     let mut taken = |bytes: &[u8]| {
         let outcome = device.receive(store, stream, black_box(bytes));
         matches!(outcome, Outcome::Taken { .. })
@@ -81,9 +87,10 @@ fn receive_all<R: Receiver>(device: &mut R, store: &mut [u8], stream: u64, frame
 }
 
 /// Gives the copying of the payloads as work, as many as the receivers take.
-fn copying(scene: Scene, frames: &[Vec<u8>]) -> Work<'_> {
-    let mut store = vec![0; scene.store as usize];
+fn copying<'a>(scene: Scene, frames: &'a [&[u8]]) -> Work<'a> {
+    let mut store = Placed::zeros(placed::STORE, scene.store as usize);
     repeated(move || {
+        let mut store = &mut store[..];
         for stream in 0..streams(scene) {
             for (number, bytes) in (0..).zip(frames) {
                 let (payload, place) = black_box(scene.span(stream, number));
@@ -96,7 +103,7 @@ fn copying(scene: Scene, frames: &[Vec<u8>]) -> Work<'_> {
 }
 
 /// Receives the frames once on ours and another receiver, whose answers and stores must be the same.
-fn check<R: Receiver>(scene: Scene, frames: &[Vec<u8>]) {
+fn check<R: Receiver>(scene: Scene, frames: &[&[u8]]) {
     let (mut ours, mut second): (Ours, R) = (scene.device(), scene.device());
     let mut store = vec![0; scene.store as usize];
     let mut other = store.clone();

@@ -18,7 +18,7 @@ impl Rnic {
 }
 
 /// Bytes of one stream's room, the longest FPDU: `RNIC_C_ROOM` of the header.
-pub const ROOM: usize = 2056;
+pub const ROOM: usize = 8200;
 /// Bytes of the rooms of all sixteen streams, which an offer is lent: `RNIC_C_ROOMS` of the header.
 pub const ROOMS: usize = 16 * ROOM;
 

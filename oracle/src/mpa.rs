@@ -5,7 +5,7 @@ use crate::crc::crc_field;
 use crate::refusal::{Fault, Refusal, ULPDU_TOO_LONG, WRONG_CRC};
 
 /// The longest ULPDU.
-pub const MAX_ULPDU: usize = 2048;
+pub const MAX_ULPDU: usize = 8192;
 /// Bytes of the ULPDU length field.
 pub const LENGTH_FIELD: usize = 2;
 /// Bytes of the CRC field.

@@ -207,7 +207,7 @@ mod tests {
     /// One segment for no bytes, and for what one holds; two for a byte more; at the smallest and the largest size.
     #[test]
     fn sizes_and_lengths() {
-        for limit in [19, 20, 33, 1500, 2048] {
+        for limit in [19, 20, 33, 1500, 2048, 8192] {
             for (header, opcode) in [(14, 0), (18, 3), (18, 6)] {
                 let room = limit as usize - header;
                 let begin = |length: usize| match opcode {
@@ -281,14 +281,14 @@ mod tests {
             assert_eq!(write(limit, 0, 0, 0), one);
             assert_eq!(send(limit, 3, 0, 0, 0), one);
         }
-        for limit in [19, 2048] {
+        for limit in [19, 2048, 2049, 8192] {
             assert_eq!(write(limit, OVER - 1, TOP, 1), None);
             assert_eq!(write(limit, OVER - 1, TOP, 0), None);
             assert_eq!(write(limit, 0, TOP - OVER + 2, OVER - 1), None);
             assert_eq!(send(limit, 3, OVER - 1, TOP, OVER - 1), None);
             assert_eq!(send(limit, 4, 0, OVER - 1, 0), None);
         }
-        for limit in [19, 2048, 2049, TOP] {
+        for limit in [19, 8192, 8193, TOP] {
             assert_eq!(write(limit, OVER, 0, 0), one);
             assert_eq!(write(limit, 0, 0, OVER), one);
             assert_eq!(write(limit, 0, TOP, 2), one);
@@ -300,7 +300,7 @@ mod tests {
                 assert_eq!(send(limit, opcode, 0, 0, 0), one);
             }
         }
-        for limit in [2049, 65_536, TOP] {
+        for limit in [8193, 65_536, TOP] {
             assert_eq!(write(limit, 0, 0, 0), twelve);
             assert_eq!(send(limit, 3, 0, 0, 0), twelve);
         }

@@ -3,13 +3,16 @@
 
 use oracle::generate::prng::Prng;
 use oracle::generate::segments::{fpdu, kind};
+use oracle::mpa::{MAX_FPDU, MAX_ULPDU};
 use oracle::offer::Offered;
 use oracle::receive::{Answer, Event};
 use oracle::refusal::{Fault, Refusal};
 use oracle::state::{Device, Part, Stream, Window, HELD};
 
 /// Bytes of the store, of which domain 1 has the second quarter.
-const STORE: usize = 16_384;
+const STORE: usize = 131_072;
+/// Bytes that the payload of a longest segment fits into.
+const LONGEST: u64 = MAX_ULPDU as u64;
 /// The stream whose bytes are cut, of domain 1, and one of domain 0.
 const STREAM: u64 = 4;
 const OTHER: u64 = 0;
@@ -29,7 +32,8 @@ struct Seen {
 }
 
 impl Bench {
-    /// Opens the stream with eight buffers and windows of each right, the CRC on or off.
+    /// Opens the stream with eight buffers and windows of each right, the CRC on or off. The first window and, now and then,
+    /// the first buffer have room for the longest segments.
     fn new(prng: &mut Prng) -> Self {
         let mut device = Device::default();
         let quarter = STORE as u64 / 4;
@@ -40,15 +44,21 @@ impl Bench {
         device.open(STORE as u64, parts).unwrap();
         device.open_stream(STREAM, prng.percent(50)).unwrap();
         device.open_stream(OTHER, false).unwrap();
-        for slot in 0..6 {
-            let (place, rights) = (quarter + slot * 300, slot % 3 + 1);
+        device
+            .register(16, 7, prng.draw() >> 1, LONGEST, quarter, 1)
+            .unwrap();
+        for slot in 1..6 {
+            let (place, rights) = (quarter + LONGEST + slot * 300, slot % 3 + 1);
             let base = prng.draw() >> 1;
             device
                 .register(16 + slot, 7, base, 300, place, rights)
                 .unwrap();
         }
-        for at in 0..8 {
-            device.post(STREAM, quarter + 1800 + at * 280, 280).unwrap();
+        let first = prng.pick(&[280, 280, LONGEST]);
+        device.post(STREAM, quarter + 12_000, first).unwrap();
+        for at in 1..8 {
+            let start = quarter + 12_000 + LONGEST + at * 280;
+            device.post(STREAM, start, 280).unwrap();
         }
         let store = prng.bytes(STORE);
         Bench { device, store }
@@ -172,7 +182,7 @@ fn stream_bytes(prng: &mut Prng, bench: &Bench) -> Vec<u8> {
 
 #[test]
 fn cut_anywhere_is_as_uncut() {
-    let (mut faults, mut held, mut ended) = (0, 0, 0);
+    let (mut faults, mut held, mut ended, mut longest) = (0, 0, 0, 0);
     for seed in 0..1500 {
         let mut prng = Prng::new(seed);
         let bench = Bench::new(&mut prng);
@@ -183,6 +193,11 @@ fn cut_anywhere_is_as_uncut() {
         whole.device.streams[STREAM as usize].held = left.to_vec();
         faults += u32::from(seen.fault.is_some());
         held += u32::from(!left.is_empty());
+        longest += seen
+            .taken
+            .iter()
+            .filter(|(total, _)| *total == MAX_FPDU)
+            .count();
         ended += u32::from(matches!(seen.taken.last(), Some((_, Event::Terminate(_)))));
         for mode in 0..5 {
             let mut pieces = bench.clone();
@@ -195,5 +210,6 @@ fn cut_anywhere_is_as_uncut() {
         }
     }
     println!("{faults} with a fault, {ended} terminated, {held} with bytes held at the end");
-    assert!(faults > 100 && ended > 100 && held > 100);
+    println!("{longest} longest FPDUs");
+    assert!(faults > 100 && ended > 100 && held > 100 && longest > 20);
 }

@@ -1,5 +1,6 @@
 //! The random scripts: the same for the same seed, and reaching every answer.
 
+use oracle::command::MAX_LINE;
 use oracle::generate::{frames, messages, nights};
 use oracle::script::run;
 use oracle::state::{DOMAINS, STREAMS_PER_DOMAIN};
@@ -136,5 +137,47 @@ fn every_night_keeps_all_four_domains_busy() {
         )
         .unwrap();
         assert!(taken.iter().all(|&count| count > 0), "{seed}: {taken:?}");
+    }
+}
+
+/// Counts the lines of some scripts, each run on a new program, whose answers fit.
+fn answered(scripts: &[Vec<u8>], fits: fn(&str) -> bool) -> usize {
+    let mut count = 0;
+    for script in scripts {
+        run(&script[..], std::io::sink(), |_, answer| {
+            count += usize::from(fits(answer));
+        })
+        .unwrap();
+    }
+    count
+}
+
+#[test]
+fn the_longest_frames_are_reached() {
+    let frames = [frame_script(7, 20_000)];
+    assert!(answered(&frames, |answer| answer.starts_with("wrote 8200 ")) > 20);
+    assert!(answered(&frames, |answer| answer.starts_with("ulpdu 8200 ")) > 20);
+    let messages = [message_script(7, 20_000)];
+    assert!(answered(&messages, |answer| answer.starts_with("wrote 8192 ")) > 20);
+    assert!(answered(&messages, |answer| answer == "taken 8200") > 20);
+    let nights: Vec<Vec<u8>> = (1..=200).map(|seed| night_script(seed, 500)).collect();
+    assert!(answered(&nights, |answer| answer == "taken 8200") > 5);
+    assert!(answered(&nights, |answer| answer.contains("taken 8200")) > 40);
+    let filled = |answer: &str| answer.contains("taken 8200 send") && answer.contains(" 8174 ");
+    assert!(answered(&nights, filled) > 5);
+    // Offers that are all held, of more bytes than the longest FPDU had before.
+    let held = |answer: &str| {
+        let count = answer.strip_prefix("took ").map(str::parse::<usize>);
+        matches!(count, Some(Ok(2057..)))
+    };
+    assert!(answered(&nights, held) > 20);
+}
+
+#[test]
+fn no_line_of_a_night_is_too_long() {
+    for seed in 1..=200 {
+        let script = night_script(seed, 500);
+        let longest = script.split(|&byte| byte == b'\n').map(<[u8]>::len).max();
+        assert!(longest.is_some_and(|length| length <= MAX_LINE), "{seed}");
     }
 }

@@ -44,8 +44,8 @@ fn write_answer(stream: u64, stag: u32, to: u64) -> String {
 
 #[test]
 fn fpdu_totals() {
-    let totals = [0, 14, 15, 18, 23, 2048].map(fpdu_total);
-    assert_eq!(totals, [8, 20, 24, 24, 32, 2056]);
+    let totals = [0, 14, 15, 18, 23, 2048, 8191, 8192].map(fpdu_total);
+    assert_eq!(totals, [8, 20, 24, 24, 32, 2056, 8200, 8200]);
 }
 
 #[test]

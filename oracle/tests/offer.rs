@@ -12,7 +12,11 @@ use oracle::script::Interpreter;
 use oracle::state::{Condition, Device, Part, HELD, STREAMS};
 
 /// Bytes of the store, of which each domain has a quarter.
-const STORE: u64 = 16_384;
+const STORE: u64 = 65_536;
+
+/// Where the window and the buffer stand.
+const WINDOW: usize = 16_384;
+const BUFFER: usize = 24_600;
 
 /// A device with a store, whose streams are all open with the CRC on.
 struct Bench {
@@ -21,7 +25,7 @@ struct Bench {
 }
 
 impl Bench {
-    /// Opens the streams, a window of 2,034 bytes at tagged offset 0 for domain 1 (STag 0x1105), and a buffer on stream 4.
+    /// Opens the streams, a window of 8,178 bytes at tagged offset 0 for domain 1 (STag 0x1105), and a buffer on stream 4.
     fn new() -> Self {
         let mut device = Device::default();
         let parts = [0, 1, 2, 3].map(|domain| Part {
@@ -32,8 +36,8 @@ impl Bench {
         for stream in 0..STREAMS as u64 {
             device.open_stream(stream, true).unwrap();
         }
-        device.register(17, 5, 0, 2034, 4096, 1).unwrap();
-        device.post(4, 6200, 5).unwrap();
+        device.register(17, 5, 0, 8178, WINDOW as u64, 1).unwrap();
+        device.post(4, BUFFER as u64, 5).unwrap();
         let store = vec![0; STORE as usize];
         Bench { device, store }
     }
@@ -90,7 +94,7 @@ fn taken(took: usize, total: usize) -> Offered {
 
 #[test]
 fn rooms() {
-    assert_eq!((MAX_FPDU, HELD), (2056, 32_896));
+    assert_eq!((MAX_FPDU, HELD), (8200, 131_200));
 }
 
 #[test]
@@ -110,7 +114,7 @@ fn cut_at_every_place() {
             assert_eq!(bench.offer(4, second), Offered::Held { took: 0 });
         }
         assert_eq!(bench.held(4), 0);
-        assert_eq!(&bench.store[4096..4104], b"payload\0");
+        assert_eq!(&bench.store[WINDOW..WINDOW + 8], b"payload\0");
     }
 }
 
@@ -124,7 +128,7 @@ fn byte_by_byte_with_empty_offers_between() {
         assert_eq!(bench.offer(4, &[*byte]), Offered::Held { took: 1 });
     }
     let event = Event::Send {
-        start: 6200,
+        start: BUFFER as u64,
         length: 5,
         opcode: SEND,
         invalidated: None,
@@ -135,7 +139,7 @@ fn byte_by_byte_with_empty_offers_between() {
         event,
     };
     assert_eq!(bench.offer(4, &[*last]), answer);
-    assert_eq!(&bench.store[6200..6205], b"HELLO");
+    assert_eq!(&bench.store[BUFFER..BUFFER + 5], b"HELLO");
 }
 
 #[test]
@@ -145,25 +149,31 @@ fn the_next_fpdu_is_not_taken() {
     let total = one.len();
     let both = [&one[..], &two].concat();
     assert_eq!(bench.offer(4, &both), taken(total, total));
-    assert_eq!((bench.held(4), &bench.store[4096..4099]), (0, &b"one"[..]));
+    assert_eq!(
+        (bench.held(4), &bench.store[WINDOW..WINDOW + 3]),
+        (0, &b"one"[..])
+    );
     assert_eq!(bench.offer(4, &both[total..]), taken(total, total));
     assert_eq!(bench.offer(4, &both[..9]), Offered::Held { took: 9 });
     assert_eq!(bench.offer(4, &both[9..]), taken(total - 9, total));
-    assert_eq!((bench.held(4), &bench.store[4096..4099]), (0, &b"one"[..]));
+    assert_eq!(
+        (bench.held(4), &bench.store[WINDOW..WINDOW + 3]),
+        (0, &b"one"[..])
+    );
 }
 
 #[test]
 fn the_longest_fpdu_on_every_stream() {
     let mut bench = Bench::new();
-    let bytes = write(&[7; 2034]);
+    let bytes = write(&[7; 8178]);
     assert_eq!(bytes.len(), MAX_FPDU);
     let (last, front) = bytes.split_last().unwrap();
     for stream in 0..STREAMS as u64 {
         let answer = bench.offer(stream, front);
-        assert_eq!(answer, Offered::Held { took: 2055 });
+        assert_eq!(answer, Offered::Held { took: 8199 });
     }
     for stream in (0..STREAMS as u64).rev() {
-        assert_eq!(bench.held(stream), 2055);
+        assert_eq!(bench.held(stream), 8199);
         match stream / 4 {
             1 => assert_eq!(bench.offer(stream, &[*last]), taken(1, MAX_FPDU)),
             _ => assert_eq!(bench.refused(stream, &[*last]), refusal::OTHER_DOMAIN),
@@ -174,16 +184,19 @@ fn the_longest_fpdu_on_every_stream() {
 
 #[test]
 fn too_long_with_the_second_byte() {
-    for length in [2049u16, 0x0900, 0xFFFF] {
+    for length in [8193u16, 0x2100, 0xFFFF] {
         let [high, low] = length.to_be_bytes();
         let mut bench = Bench::new();
         assert_eq!(bench.refused(4, &[high, low]), refusal::ULPDU_TOO_LONG);
         assert_eq!(bench.offer(5, &[high]), Offered::Held { took: 1 });
         assert_eq!(bench.refused(5, &[low, 1, 2]), refusal::ULPDU_TOO_LONG);
     }
-    let mut bench = Bench::new();
-    assert_eq!(bench.offer(4, &[8]), Offered::Held { took: 1 });
-    assert_eq!(bench.offer(4, &[0]), Offered::Held { took: 1 });
+    for (stream, length) in [(4, 2048u16), (5, 2049), (6, 8191), (7, 8192)] {
+        let mut bench = Bench::new();
+        for byte in length.to_be_bytes() {
+            assert_eq!(bench.offer(stream, &[byte]), Offered::Held { took: 1 });
+        }
+    }
 }
 
 #[test]
@@ -247,7 +260,7 @@ fn receive_is_refused_while_its_own_stream_holds_bytes() {
     let mut bench = Bench::new();
     let bytes = write(b"x");
     bench.offer(4, &bytes[..1]);
-    for piece in [&bytes[..], &bytes[1..], &[8, 1], &[]] {
+    for piece in [&bytes[..], &bytes[1..], &[0x20, 1], &[]] {
         let (device, store) = (bench.device.clone(), bench.store.clone());
         let answer = bench.device.receive(&mut bench.store, 4, piece);
         assert_eq!(answer, Answer::Refused(Refusal::Holds));
@@ -266,7 +279,7 @@ fn receive_is_refused_while_its_own_stream_holds_bytes() {
 fn local_refusals_in_their_order_change_nothing() {
     let mut bench = Bench::new();
     bench.device.close_stream(5).unwrap();
-    bench.offer(6, &[8, 1]);
+    bench.offer(6, &[0x20, 1]);
     bench.offer(4, &[0, 18, 0xC1]);
     let (held, short) = (HELD as u64, STORE as usize - 1);
     for (stream, lent, held, refusal) in [
@@ -282,7 +295,7 @@ fn local_refusals_in_their_order_change_nothing() {
     ] {
         let (device, store) = (bench.device.clone(), bench.store.clone());
         let lent = &mut bench.store[..lent];
-        let answer = bench.device.offer(lent, held, stream, &[8, 1]);
+        let answer = bench.device.offer(lent, held, stream, &[0x20, 1]);
         assert_eq!(answer, Offered::Refused(refusal));
         assert!(bench.device == device && bench.store == store);
     }
@@ -298,8 +311,16 @@ fn a_line_as_long_as_may_be() {
     assert_eq!(answer.as_deref(), Some("took 20 taken 20"));
     line.push(b' ');
     assert_eq!(interpreter.run_line(&line).as_deref(), Some("bad"));
-    let front = hex::encode(&[8, 0, 7]);
-    let answer = interpreter.run_line(format!("offer 0 {front} 0 32896").as_bytes());
+    let front = hex::encode(&[0x20, 0, 7]);
+    for (held, answer) in [
+        (32_896, "refused 2"),
+        (131_199, "refused 2"),
+        (131_201, "bad"),
+    ] {
+        let given = interpreter.run_line(format!("offer 0 {front} 0 {held}").as_bytes());
+        assert_eq!(given.as_deref(), Some(answer));
+    }
+    let answer = interpreter.run_line(format!("offer 0 {front} 0 131200").as_bytes());
     assert_eq!(answer.as_deref(), Some("took 3"));
     assert_eq!(interpreter.run_line(b"held 0").as_deref(), Some("held 3"));
 }

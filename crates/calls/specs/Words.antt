@@ -1,7 +1,9 @@
 -- The words of an answer: word 0 says its kind, the next ones are its numbers, and those that are left are 0.
-use Prim.Native.Nat.{ℕ}
+use Prim.Native.Nat.{ℕ, _-_}
 use mathlib.Core.List.{List, [], _∷_}
-use lib.ListN.{set}
+use lib.ListN.{set, getD}
+use lib.Dec.{leb, eqb}
+use Rattle.wire.specs.Wire.{pick, both}
 use Rattle.memory.specs.declared.part.Outcome.{Outcome}
 use Rattle.memory.specs.declared.part.Outcome.the-variants.{Done, Refused as NotDone}
 use Rattle.rdmap.specs.declared.stream.CloseAnswer.{CloseAnswer}
@@ -73,3 +75,10 @@ offerWords (Kept n) = tookWords (words 11 0 0 0 0 0) n
 offerWords (Completed taken total event) = tookWords (eventWords total event) taken
 offerWords (OfferEnded r) = endedWords r
 offerWords (OfferRefused number) = refusedWords number
+
+-- and of receive's words for the pending bytes, of which so many were held before, the words of an offer of `count` bytes: `offered-words` in
+-- proofs/Offered.antt
+unfoldable pub offeredWords : List ℕ → ℕ → ℕ → List ℕ
+offeredWords ws held count =
+    pick (eqb (getD ws 0 0) 5) (tookWords (words 11 0 0 0 0 0) count)
+    (pick (both (leb 6 (getD ws 0 0)) (leb (getD ws 0 0) 9)) (tookWords ws (getD ws 1 0 - held)) ws)

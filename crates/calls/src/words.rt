@@ -1,6 +1,7 @@
 // The words of an answer: word 0 says its kind, the next ones are its numbers, those that are left
 // are 0. The kinds stand in specs/Words.antt, and in include/rnic.h for a C program.
 ghost use mathlib.Core.Path.{_≡_};
+ghost use Prim.Native.Nat.{_-_};
 ghost use Rattle.calls.specs.Words.{
   words as wordsOf,
   outcomeWords,
@@ -10,13 +11,13 @@ ghost use Rattle.calls.specs.Words.{
   eventWords,
   endedWords,
   answerWords,
+  refusedWords,
   tookWords,
-  offerWords,
+  offeredWords,
 };
 use ddp::refusal::Refusal;
 use domain::Answer;
 use domain::Event;
-use holding::OfferAnswer;
 use memory::part::Outcome;
 use rdmap::stream::CloseAnswer;
 use rdmap::stream::TakeAnswer;
@@ -130,27 +131,44 @@ pub fn answer_words(answer: Answer) -> [u64; 8]
     }
 }
 
-// The words with how many bytes of an offer were taken.
-fn took_words(w: [u64; 8], n: u64) -> [u64; 8]
-    ensures { λ r. ⌜ r ≡ tookWords w n ⌝ }
+// A local refusal, by its number.
+pub fn refused_words(number: u8) -> [u64; 8]
+    ensures { λ r. ⌜ r ≡ refusedWords number ⌝ }
 {
-    let mut next = w;
-    next[6] = n;
-    next
+    words(0, number as u64, 0, 0, 0, 0)
 }
 
-// What an offer answers.
-pub fn offer_words(answer: OfferAnswer) -> [u64; 8]
-    ensures { λ r. ⌜ r ≡ offerWords answer ⌝ }
+// All bytes of an offer are held.
+pub fn kept_words(count: u64) -> [u64; 8]
+    ensures { λ r. ⌜ r ≡ tookWords (wordsOf 11 0 0 0 0 0) count ⌝ }
 {
-    match answer {
-        OfferAnswer::Kept(n) => took_words(words(11, 0, 0, 0, 0, 0), n as u64),
-        OfferAnswer::Completed {
-            taken,
-            total,
-            event,
-        } => took_words(event_words(total as u64, event), taken as u64),
-        OfferAnswer::Ended(refusal) => ended_words(refusal),
-        OfferAnswer::Refused(number) => words(0, number as u64, 0, 0, 0, 0),
+    [11, 0, 0, 0, 0, 0, count, 0]
+}
+
+// How many of an offer's bytes an FPDU of this total took, where so many were held.
+fn taken_of(total: u64, held: u64) -> u64
+    ensures { λ r. ⌜ r ≡ total - held ⌝ }
+{
+    if total < held {
+        return 0;
+    }
+    total - held
+}
+
+// Makes of what receive answered to the pending bytes, of which `held` were held before, what an offer of
+// `count` bytes answers.
+pub fn offered(answer: &mut [u64; 8], held: u64, count: u64)
+    ensures { λ _. ⌜ now (answer .exit) ≡ offeredWords (now (answer .entry)) held count ⌝ }
+{
+    let kind = answer[0];
+    if kind == 5 {
+        *answer = kept_words(count);
+        return;
+    }
+    if 6 <= kind {
+        if kind <= 9 {
+            answer[6] = taken_of(answer[1], held);
+            return;
+        }
     }
 }

@@ -4,8 +4,10 @@
 use Prim.Native.Nat.{ℕ, _≤_}
 use mathlib.Core.Path.{_≡_, refl, ap, subst, _∙_}
 use mathlib.Core.List.{List, [], _++_}
+use native.Mathlib.Nat.{le-of-lt}
 use native.Mathlib.Omega.{arith}
 use lib.ListN.{length}
+use Rattle.mpa.specs.Fpdu.{maxUlpdu, totalOf}
 use Rattle.domain.specs.Domain.{domainReceived}
 use Rattle.domain.specs.declared.Event.{Event}
 use Rattle.domain.specs.declared.Event.the-variants.{Terminated}
@@ -60,12 +62,12 @@ module _ (number slot : ℕ) where
     pub held-holds : (bytes : List ℕ) → MayHold number slot (drain (received number slot) w held bytes .state) (drain (received number slot) w held bytes .held)
     held-holds bytes = drain-holding (machine number slot) w held bytes holds
 
-    -- and is fewer bytes than the FPDU that it begins has, and fits a room of 2,056
+    -- and is fewer bytes than the FPDU that it begins has, and fits a room of the longest FPDU
     pub held-fits : (bytes : List ℕ) → Short (drain (received number slot) w held bytes .held)
     held-fits bytes = held-short number slot (drain (received number slot) w held bytes .state) (drain (received number slot) w held bytes .held) (drain-holding (machine number slot) w held bytes holds)
 
-    pub held-room : (bytes : List ℕ) → length (drain (received number slot) w held bytes .held) ≤ 2056
-    held-room bytes = let s = held-fits bytes in omega (arith, s .fits)
+    pub held-room : (bytes : List ℕ) → length (drain (received number slot) w held bytes .held) ≤ totalOf maxUlpdu
+    held-room bytes = le-of-lt (held-fits bytes .fits)
 
     -- bytes after those that ended the stream do not matter
     pub domain-end-last :

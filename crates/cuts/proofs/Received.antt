@@ -4,6 +4,7 @@ use Prim.Native.Nat.{ℕ, _+_, _-_, _≤_, _<_}
 use mathlib.Core.Path.{_≡_, refl, sym, ap, ap₂, subst, _∙_}
 use mathlib.Core.Bool.{Bool, true, false, not}
 use mathlib.Core.List.{List, [], _++_}
+use native.Mathlib.Nat.{lt-of-lt-of-le}
 use native.Mathlib.Omega.{arith}
 use lib.ListN.{length, getD, set, take, length-append, List·getD-eq-default}
 use lib.Seq.{take-at, take-append-le, getD-set-same, set-getD}
@@ -11,7 +12,8 @@ use lib.Dec.{leb}
 use borrow.Author.Tests.{leb-true, leb-false, le-leb, lt-leb}
 use Rattle.wire.specs.Wire.{pick, both, part, be16At}
 use Rattle.wire.proofs.Laws.{be16At-take}
-use Rattle.mpa.specs.Fpdu.{totalOf, crcRight}
+use Rattle.mpa.specs.Fpdu.{maxUlpdu, totalOf, crcRight}
+use Rattle.mpa.proofs.Length.{total-two, total-limit}
 use Rattle.mpa.specs.declared.FpduRead.the-variants.{Refused as FpduRefused, Taken as FpduTaken}
 use Rattle.memory.specs.Window.{windowAt, slotNamed}
 use Rattle.memory.specs.declared.part.Part.{Part}
@@ -499,8 +501,8 @@ module _ (number slot : ℕ) where
   held-short w h holds = go (standing w)
     where
       kinds : Opened w → Kind h → Short h
-      kinds o (few l) = record { fits = omega (arith, l); begins = λ g. absurd (omega (arith, l, g)) }
-      kinds o (begun k) = record { fits = omega (arith, k .less, k .low); begins = λ g. (k .low, k .less) }
+      kinds o (few l) = record { fits = lt-of-lt-of-le l (total-two maxUlpdu); begins = λ g. absurd (omega (arith, l, g)) }
+      kinds o (begun k) = record { fits = lt-of-lt-of-le (k .less) (total-limit maxUlpdu (be16At h 0) (k .low)); begins = λ g. (k .low, k .less) }
       kinds o (long k) = absurd (subst (Holds h) (open-long w o h k) holds)
       kinds o (whole k) = absurd (no (received number slot w h) (open-whole w o h k) holds)
         where

@@ -5,7 +5,7 @@ use Rattle.ddp.specs.declared.refusal.Refusal.{Refusal}
 abbrev pub row : ℕ → ℕ → ℕ → ℕ → Refusal
 row number layer etype code = record { number = number; layer = layer; etype = etype; code = code }
 
--- "ULPDU over 2,048, asked once 2 bytes are there"
+-- a ULPDU over the limit (`maxUlpdu` of the crate `mpa`), "asked once 2 bytes are there"
 abbrev pub ulpduTooLong : Refusal
 ulpduTooLong = row 20 1 0 0x00
 

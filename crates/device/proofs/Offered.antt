@@ -6,14 +6,13 @@ use mathlib.Core.List.{List, [], _++_}
 use mathlib.Core.Path.{_≡_, refl, sym, ap, ap₂, subst, _∙_}
 use native.Mathlib.Omega.{arith}
 use lib.Dec.{leb, ltb}
-use lib.ListN.{length, take, length-append, length-take}
+use lib.ListN.{length, take, getD, length-append, length-take}
 use lib.Seq.{set-set, set-getD, getD-set-same}
 use borrow.Author.Tests.{le-leb, ltb-false}
 use Rattle.wire.specs.Wire.{pick, both}
 use Rattle.memory.specs.declared.part.Part.{Part}
 use Rattle.memory.specs.declared.window.Window.{Window}
 use Rattle.ddp.specs.Segment.{segmentRead}
-use Rattle.ddp.specs.declared.refusal.Refusal.{Refusal}
 use Rattle.rdmap.specs.Framing.{framingHolding}
 use Rattle.rdmap.specs.Phase.{readiness}
 use Rattle.rdmap.specs.Stream.{withFraming, holding}
@@ -26,12 +25,11 @@ use Rattle.domain.specs.Parts.{partsAnswered, partsJudged, partsPlaced, partsUn
 use Rattle.domain.specs.declared.Answer.{Answer}
 use Rattle.domain.specs.declared.Answer.the-variants.{Wait, Taken, Ended, Refused}
 use Rattle.domain.specs.declared.Domain.{Domain}
-use Rattle.domain.specs.declared.Event.{Event}
 use Rattle.domain.specs.declared.parts.PartsReceived.{PartsReceived}
 use Rattle.holding.specs.Pending.{roomBytes, neededOf, isShort, gathered, heldNow, roomAfter}
 use Rattle.holding.specs.Offer.{holds, domainReceives, domainReceivesBytes, offerAnswer, partsHeld, partsHeldOf, partsOffered, partsOfferedBytes}
 use Rattle.holding.specs.declared.OfferAnswer.{OfferAnswer}
-use Rattle.holding.specs.declared.OfferAnswer.the-variants.{Kept, Completed, Ended as OfferEnded, Refused as OfferRefused}
+use Rattle.holding.specs.declared.OfferAnswer.the-variants.{Kept, Refused as OfferRefused}
 use Rattle.holding.specs.declared.gather.Gathered.{Gathered}
 use Rattle.holding.specs.declared.gather.Gathered.the-variants.{Short, Enough}
 use Rattle.holding.proofs.Gathered.{room-enough}
@@ -45,7 +43,9 @@ use Rattle.block.specs.Device.{rnicAt}
 use Rattle.block.specs.Exchange.{streamOf, withStreamOf}
 use Rattle.device.specs.Lifted.{liftedOf, partsReceives, partsReceivesBytes, heldIn, offeredOf, offeredBytesOf, offeredRoomOf, offerAnswerOf}
 use Rattle.device.proofs.Applied.{entry-put, entry-again, four-streams}
-use Rattle.device.proofs.Received.{FirstAs, ReceivedAs}
+use Rattle.calls.specs.Words.{words, refusedWords, answerWords, tookWords, offerWords, offeredWords}
+use Rattle.calls.proofs.Offered.{offered-words, waitOf, kind-waits}
+use Rattle.device.proofs.Received.{FirstWords, ReceivedAs}
 use Rattle.device.proofs.Slots.{stream-kept, phase-of, framing-of}
 
 -- ---- receive of a domain, by the parts that it needs
@@ -81,17 +81,17 @@ module _ (w : List ℕ) (d j : ℕ) (hd : d < 4) (hj : j < 4) (p : Part) (input 
   -- ---- receive, which is refused while the stream holds bytes
 
   -- what is answered, the block after it and the domain's bytes
-  abbrev pub ReceivesAs : Answer → List ℕ → List ℕ → Type 0
-  ReceivesAs a v after =
-      (a ≡ partsReceives ws d s input .answer)
+  abbrev pub ReceivesAs : List ℕ → List ℕ → List ℕ → Type 0
+  ReceivesAs l v after =
+      (l ≡ answerWords (partsReceives ws d s input .answer))
       × (rnicAt v ≡ liftedOf b d j (partsReceives ws d s input))
       × (after ≡ partsReceivesBytes p ws d s input mem)
 
-  pub receives-none : {a : Answer} {after : List ℕ} (v : List ℕ) → holds s ≡ false → ReceivedAs w d j p input mem a v after → ReceivesAs a v after
+  pub receives-none : {l after : List ℕ} (v : List ℕ) → holds s ≡ false → ReceivedAs w d j p input mem l v after → ReceivesAs l v after
   unfolding partsReceives partsReceivesBytes
   receives-none v e r = (simp e (r .0), simp e (r .1), simp e (r .2))
 
-  pub receives-held : holds s ≡ true → ReceivesAs (Refused 16) w mem
+  pub receives-held : holds s ≡ true → ReceivesAs (refusedWords 16) w mem
   unfolding partsReceives partsReceivesBytes
   receives-held e = (simp e, simp e (sym (stream-kept b d j)), simp e)
 
@@ -116,6 +116,17 @@ module _ (w : List ℕ) (d j : ℕ) (hd : d < 4) (hj : j < 4) (p : Part) (input 
         × (after ≡ offeredBytesOf b d j p room input mem)
         × (r ≡ offeredRoomOf b d j room input)
 
+    -- and with the words of the answer
+    abbrev pub OfferedWords : List ℕ → List ℕ → List ℕ → List ℕ → Type 0
+    OfferedWords l v after r =
+        (l ≡ offerWords (offerAnswerOf b d j room input))
+        × (rnicAt v ≡ liftedOf b d j (offeredOf b d j room input))
+        × (after ≡ offeredBytesOf b d j p room input mem)
+        × (r ≡ offeredRoomOf b d j room input)
+
+    as-words : {a : OfferAnswer} {l after r : List ℕ} (v : List ℕ) → l ≡ offerWords a → OfferedAs a v after r → OfferedWords l v after r
+    as-words v e t = (e ∙ ap offerWords (t .0), t .1, t .2, t .3)
+
     -- what the offer makes of the stream is x, the domain's bytes y, and the room z
     as-told :
         {a : OfferAnswer} {after r : List ℕ} (v : List ℕ) (x : PartsReceived) → offeredOf b d j room input ≡ x → a ≡ offerAnswer (length h) (length input) (x .answer) → rnicAt v ≡ liftedOf b d j x →
@@ -128,17 +139,18 @@ module _ (w : List ℕ) (d j : ℕ) (hd : d < 4) (hj : j < 4) (p : Part) (input 
       f″ ∙ sym e″,
     )
 
-    pub offer-shut : (k : ℕ) → readiness (loadedPhase w d j) ≡ NotReady k → OfferedAs (OfferRefused k) w mem room
+    pub offer-shut : (k : ℕ) → readiness (loadedPhase w d j) ≡ NotReady k → OfferedWords (refusedWords k) w mem room
     unfolding partsOffered partsOfferedBytes partsReceived partsReceivedBytes
     offer-shut k e =
         let shut : readiness (s .phase) ≡ NotReady k = ap readiness (phase-of w d j hd hj) ∙ e in
-        as-told w (partsUnchanged s (Refused k))
+        as-words w refl
+        (as-told {a = OfferRefused k} w (partsUnchanged s (Refused k))
         (ap (λ (r : Readiness). partsHeldOf s (length h + length input) (partsWhen ws d (holding s 0) (h ++ input) r)) shut)
         refl (sym (stream-kept b d j)) mem
         (ap (partsBytesWhen p ws d (holding s 0) (h ++ input) mem) shut)
         refl room
         (ap (λ (t : Bool). pick t (roomAfter h input room) room) (shut-phase s k shut))
-        refl
+        refl)
 
     module _ (ready : readiness (s .phase) ≡ Ready) where
       -- what an open stream that holds nothing makes of bytes
@@ -207,9 +219,13 @@ module _ (w : List ℕ) (d j : ℕ) (hd : d < 4) (hj : j < 4) (p : Part) (input 
             let e = sym zero-held in
             λ i. record { phase = s .phase; framing = record { crc = s .framing .crc; held = e i }; sends = s .sends; reads = s .reads; terminates = s .terminates }
 
-        module _ {a : Answer} {after : List ℕ} (v : List ℕ) (first : FirstAs w d j p input mem (segmentRead (f .crc) input) a v after) where
-          told : FirstAs w d j p input mem (segmentRead (s .framing .crc) input) a v after
-          told = subst (λ (x : Framing). FirstAs w d j p input mem (segmentRead (x .crc) input) a v after) framed first
+        module _ {l after : List ℕ} (v : List ℕ) (first : FirstWords w d j p input mem (segmentRead (f .crc) input) l v after) where
+          -- what receive answers
+          abbrev a : Answer
+          a = core s input .answer
+
+          told : FirstWords w d j p input mem (segmentRead (s .framing .crc) input) l v after
+          told = subst (λ (x : Framing). FirstWords w d j p input mem (segmentRead (x .crc) input) l v after) framed first
 
           pending : h ++ input ≡ input
           pending = ap (λ (l : List ℕ). l ++ input) no-bytes
@@ -224,44 +240,49 @@ module _ (w : List ℕ) (d j : ℕ) (hd : d < 4) (hj : j < 4) (p : Part) (input 
           fresh-taken : Decided a → OfferedAs (offerAnswer 0 (length input) a) v after room
           unfolding isShort
           fresh-taken k =
-              let enough : isShort (h ++ input) ≡ false = ap isShort pending ∙ decided-enough p ws d s (s .framing .crc) mem input (subst Decided (told .0) k) in
+              let enough : isShort (h ++ input) ≡ false = ap isShort pending ∙ decided-enough p ws d s (s .framing .crc) mem input k in
               let none-held : 0 ≡ length h = sym (ap length no-bytes) in
               subst (λ (n : ℕ). OfferedAs (offerAnswer n (length input) a) v after room) (sym none-held)
-              (taken-enough enough a v after room (told .0 ∙ sym (ap (λ (x : PartsReceived). x .answer) core-same)) (told .1 ∙ sym (ap (λ (x : PartsReceived). liftedOf b d j x) core-same)) (told .2 ∙ sym bytes-same)
+              (taken-enough enough a v after room (sym (ap (λ (x : PartsReceived). x .answer) core-same)) (told .1 ∙ sym (ap (λ (x : PartsReceived). liftedOf b d j x) core-same)) (told .2 ∙ sym bytes-same)
               (room-fresh h input (length h) (neededOf (h ++ input)) refl refl (enough-long enough) (sym none-held) room))
             where
               enough-long : isShort (h ++ input) ≡ false → neededOf (h ++ input) ≤ length h + length input
               enough-long e = let l = ltb-false (length (h ++ input)) (neededOf (h ++ input)) e in omega (arith, l, length-append h input)
 
-          pub fresh-completed : (total : ℕ) (e : Event) → a ≡ Taken total e → OfferedAs (Completed total total e) v after room
-          fresh-completed total e q =
-              let all : total - 0 ≡ total = omega arith in
-              subst (λ (n : ℕ). OfferedAs (Completed n total e) v after room) all
-              (subst (λ (x : Answer). OfferedAs (offerAnswer 0 (length input) x) v after room) q (fresh-taken (subst Decided (sym q) tt)))
+          -- the offer's words, of receive's
+          fresh-words : (x : OfferAnswer) → offerAnswer 0 (length input) a ≡ x → offeredWords l 0 (length input) ≡ offerWords x
+          fresh-words x e = ap (λ (t : List ℕ). offeredWords t 0 (length input)) (told .0) ∙ offered-words a 0 (length input) ∙ ap offerWords e
 
-          pub fresh-ended : (x : Refusal) → a ≡ Ended x → OfferedAs (OfferEnded x) v after room
-          fresh-ended x q = subst (λ (y : Answer). OfferedAs (offerAnswer 0 (length input) y) v after room) q (fresh-taken (subst Decided (sym q) tt))
-
-          pub fresh-refused : (k : ℕ) → a ≡ Refused k → ⊥
-          fresh-refused k e = never-refused p ws d s (s .framing .crc) mem input k (sym (told .0) ∙ e)
+          pub fresh-done : (getD l 0 0 ≡ 5 → ⊥) → OfferedWords (offeredWords l 0 (length input)) v after room
+          fresh-done other = as-words v (fresh-words (offerAnswer 0 (length input) a) refl) (fresh-taken (go a refl))
+            where
+              go : (x : Answer) → a ≡ x → Decided a
+              go (Wait n) e = absurd (other (ap (λ (t : List ℕ). getD t 0 0) (told .0 ∙ ap answerWords e)))
+              go (Taken total ev) e = subst Decided (sym e) tt
+              go (Ended r) e = subst Decided (sym e) tt
+              go (Refused k) e = absurd (never-refused p ws d s (s .framing .crc) mem input k e)
 
           -- the bytes are kept
+          waits-told : getD l 0 0 ≡ 5 → a ≡ Wait (waitOf a)
+          waits-told five = kind-waits a (sym (ap (λ (t : List ℕ). getD t 0 0) (told .0)) ∙ five)
+
           pub fresh-kept :
-              (n : ℕ) → a ≡ Wait n → (g : Gathered) (u r : List ℕ) → g ≡ gathered (take (f .held) room) input →
+              getD l 0 0 ≡ 5 → (g : Gathered) (u r : List ℕ) → g ≡ gathered (take (f .held) room) input →
               rnicAt u ≡ withStreamOf (rnicAt v) d j (withFraming (streamOf (rnicAt v) d j) (framingHolding f (heldNow g))) → r ≡ roomAfter (take (f .held) room) input room →
-              OfferedAs (Kept (length input)) u after r
+              OfferedWords (offeredWords l 0 (length input)) u after r
           unfolding gathered
-          fresh-kept n e g u r is then put =
-              let waits : core s input .answer ≡ Wait n = sym (told .0) ∙ e in
-              let short₀ : isShort input ≡ true = waits-short p ws d s (s .framing .crc) mem input n waits in
+          fresh-kept five g u r is then put =
+              let waits : a ≡ Wait (waitOf a) = waits-told five in
+              let short₀ : isShort input ≡ true = waits-short p ws d s (s .framing .crc) mem input (waitOf a) waits in
               let short : isShort (h ++ input) ≡ true = ap isShort pending ∙ short₀ in
               let still : rnicAt v ≡ b = told .1 ∙ ap (λ (x : PartsReceived). liftedOf b d j x) (short-waits p ws d s (s .framing .crc) mem input short₀ .0) ∙ stream-kept b d j in
               let front : take (f .held) room ≡ h = ap (λ (x : Framing). take (x .held) room) framed in
               let got : g ≡ Short (length (h ++ input)) = is ∙ ap (λ (l : List ℕ). gathered l input) front ∙ ap (λ (t : Bool). pick t (Short (length (h ++ input))) (Enough (neededOf (h ++ input)))) short in
-              kept-short short u after r
+              as-words u (fresh-words (Kept (length input)) (ap (offerAnswer 0 (length input)) waits))
+              (kept-short short u after r
               (then ∙ (λ i. withStreamOf (still i) d j (withFraming (streamOf (still i) d j) (framingHolding (framed i) (heldNow (got i))))))
               (told .2 ∙ short-waits p ws d s (s .framing .crc) mem input short₀ .1)
-              (put ∙ ap (λ (l : List ℕ). roomAfter l input room) front)
+              (put ∙ ap (λ (l : List ℕ). roomAfter l input room) front))
 
       -- ---- some are held
       module _ (f : Framing) (framed : f ≡ s .framing) (g : Gathered) (v r : List ℕ) (is : g ≡ gathered (take (f .held) room) input) (then : rnicAt v ≡ withStreamOf b d j (withFraming s (framingHolding f (heldNow g)))) (put : r ≡ roomAfter (take (f .held) room) input room) where
@@ -291,12 +312,12 @@ module _ (w : List ℕ) (d j : ℕ) (hd : d < 4) (hj : j < 4) (p : Part) (input 
             go true q = absurd (let no : _≡_ {A = ℕ} 0 1 = cc in omega arith)
             go false q = (refl, cc)
 
-        pub held-kept : (n : ℕ) → g ≡ Short n → OfferedAs (Kept (length input)) v mem r
+        pub held-kept : (n : ℕ) → g ≡ Short n → OfferedWords (tookWords (words 11 0 0 0 0 0) (length input)) v mem r
         unfolding gathered
         held-kept n e =
             let short = short-got n e in
             let all : g ≡ Short (length (h ++ input)) = got ∙ ap (λ (t : Bool). pick t (Short (length (h ++ input))) (Enough (neededOf (h ++ input)))) short in
-            kept-short short v mem r (then ∙ (λ i. withStreamOf b d j (withFraming s (framingHolding (framed i) (heldNow (all i)))))) refl put-held
+            as-words v refl (kept-short short v mem r (then ∙ (λ i. withStreamOf b d j (withFraming s (framingHolding (framed i) (heldNow (all i)))))) refl put-held)
 
         module _ (long : length room ≡ roomBytes) (some : 0 < f .held) (n : ℕ) (e : g ≡ Enough n) where
           enough : isShort (h ++ input) ≡ false
@@ -335,20 +356,22 @@ module _ (w : List ℕ) (d j : ℕ) (hd : d < 4) (hj : j < 4) (p : Part) (input 
               ∙ (λ i. withDomain b d (record { part = own .part; windows = killed (x .invalidate) (own .windows); streams = set-set (own .streams) j (holding s 0) (x .stream) i }))
 
           pub held-taken :
-              (a : Answer) (u after : List ℕ) → FirstAs v d j p (take n r) mem (segmentRead (f .crc) (take n r)) a u after →
-              OfferedAs (offerAnswer (length h) (length input) a) u after r
-          held-taken a u after first =
+              (l u after : List ℕ) → FirstWords v d j p (take n r) mem (segmentRead (f .crc) (take n r)) l u after →
+              OfferedWords (offeredWords l (length h) (length input)) u after r
+          held-taken l u after first =
               let q : List ℕ = take (neededOf (h ++ input)) (h ++ input) in
               let same = enough-own p ws d (holding s 0) (s .framing .crc) mem (h ++ input) enough in
               let crcs : f .crc ≡ s .framing .crc = ap (λ (x : Framing). x .crc) framed in
-              let seen : FirstAs v d j p q mem (segmentRead (s .framing .crc) q) a u after = subst (λ (l : List ℕ). FirstAs v d j p l mem (segmentRead (s .framing .crc) l) a u after) needed-there (subst (λ (c : Bool). FirstAs v d j p (take n r) mem (segmentRead c (take n r)) a u after) crcs first) in
+              let seen : FirstWords v d j p q mem (segmentRead (s .framing .crc) q) l u after = subst (λ (t : List ℕ). FirstWords v d j p t mem (segmentRead (s .framing .crc) t) l u after) needed-there (subst (λ (c : Bool). FirstWords v d j p (take n r) mem (segmentRead c (take n r)) l u after) crcs first) in
               let x : PartsReceived = partsAnswered (streamOf (rnicAt v) d j) (partsJudged (domainAt (rnicAt v) d .windows) d (streamOf (rnicAt v) d j) q (segmentRead (s .framing .crc) q)) in
               let told : x ≡ core (holding s 0) (h ++ input) =
               (λ i. partsAnswered (stream-then i) (partsJudged (entry i .windows) d (stream-then i) q (segmentRead (s .framing .crc) q))) ∙ same .0 in
               let placed : partsPlaced p (domainAt (rnicAt v) d .windows) d (streamOf (rnicAt v) d j) q mem (segmentRead (s .framing .crc) q) ≡ coreBytes (holding s 0) (h ++ input) =
               (λ i. partsPlaced p (entry i .windows) d (stream-then i) q mem (segmentRead (s .framing .crc) q)) ∙ same .1 in
-              taken-enough enough a u after r
-              (seen .0 ∙ ap (λ (x : PartsReceived). x .answer) told)
+              let a : Answer = core (holding s 0) (h ++ input) .answer in
+              as-words u
+              (ap (λ (t : List ℕ). offeredWords t (length h) (length input)) (seen .0 ∙ ap (λ (x : PartsReceived). answerWords (x .answer)) told) ∙ offered-words a (length h) (length input))
+              (taken-enough enough a u after r refl
               (seen .1 ∙ lifted-then x ∙ ap (λ (x : PartsReceived). liftedOf b d j x) told)
               (seen .2 ∙ placed)
-              put-held
+              put-held)

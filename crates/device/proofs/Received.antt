@@ -14,9 +14,9 @@ use Rattle.rdmap.specs.declared.stream.Stream.{Stream}
 use Rattle.memory.specs.declared.window.Window.{Window}
 use Rattle.domain.specs.Parts.{partsAnswered, partsJudged, partsPlaced, partsWhen, partsBytesWhen, partsReceived, partsReceivedBytes}
 use Rattle.domain.specs.declared.Answer.{Answer}
-use Rattle.domain.specs.declared.Answer.the-variants.{Refused}
 use Rattle.domain.specs.declared.parts.PartsReceived.{PartsReceived}
 use Rattle.rnic.specs.Rnic.{domainAt}
+use Rattle.calls.specs.Words.{refusedWords, answerWords}
 use Rattle.rnic.specs.declared.Rnic.{Rnic}
 use Rattle.block.specs.Stream.{loadedPhase, loadedFraming}
 use Rattle.block.specs.Device.{rnicAt}
@@ -44,10 +44,17 @@ module _ (w : List ℕ) (d j : ℕ) (p : Part) (input mem : List ℕ) where
   pub first-told : {x y : SegmentRead} {a : Answer} {after : List ℕ} (v : List ℕ) → x ≡ y → FirstAs x a v after → FirstAs y a v after
   first-told {a = a} {after = after} v e h = subst (λ (z : SegmentRead). FirstAs z a v after) e h
 
+  -- and with the words of the answer
+  abbrev pub FirstWords : SegmentRead → List ℕ → List ℕ → List ℕ → Type 0
+  FirstWords x l v after =
+      (l ≡ answerWords (partsAnswered s (partsJudged ws d s input x) .answer))
+      × (rnicAt v ≡ liftedOf b d j (partsAnswered s (partsJudged ws d s input x)))
+      × (after ≡ partsPlaced p ws d s input mem x)
+
   -- and of the whole call
-  abbrev pub ReceivedAs : Answer → List ℕ → List ℕ → Type 0
-  ReceivedAs a v after =
-      (a ≡ partsReceived ws d s input .answer)
+  abbrev pub ReceivedAs : List ℕ → List ℕ → List ℕ → Type 0
+  ReceivedAs l v after =
+      (l ≡ answerWords (partsReceived ws d s input .answer))
       × (rnicAt v ≡ liftedOf b d j (partsReceived ws d s input))
       × (after ≡ partsReceivedBytes p ws d s input mem)
 
@@ -60,17 +67,17 @@ module _ (w : List ℕ) (d j : ℕ) (p : Part) (input mem : List ℕ) where
     unfolding partsReceivedBytes
     bytes-when r e = ap (partsBytesWhen p ws d s input mem) (ap readiness (phase-of w d j hd hj) ∙ e)
 
-    pub not-ready : (k : ℕ) → readiness (loadedPhase w d j) ≡ NotReady k → ReceivedAs (Refused k) w mem
+    pub not-ready : (k : ℕ) → readiness (loadedPhase w d j) ≡ NotReady k → ReceivedAs (refusedWords k) w mem
     not-ready k e =
         let t = when (NotReady k) e in
-        (sym (ap (λ (x : PartsReceived). x .answer) t), sym (ap (λ (x : PartsReceived). liftedOf b d j x) t ∙ stream-kept b d j), sym (bytes-when (NotReady k) e))
+        (sym (ap (λ (x : PartsReceived). answerWords (x .answer)) t), sym (ap (λ (x : PartsReceived). liftedOf b d j x) t ∙ stream-kept b d j), sym (bytes-when (NotReady k) e))
 
-    pub is-ready : {a : Answer} {after : List ℕ} (v : List ℕ) (f : Framing) → readiness (loadedPhase w d j) ≡ Ready → f ≡ loadedFraming w d j → FirstAs (segmentRead (f .crc) input) a v after → ReceivedAs a v after
-    is-ready {a = a} {after = after} v f e g h =
+    pub is-ready : {l after : List ℕ} (v : List ℕ) (f : Framing) → readiness (loadedPhase w d j) ≡ Ready → f ≡ loadedFraming w d j → FirstWords (segmentRead (f .crc) input) l v after → ReceivedAs l v after
+    is-ready {l = l} {after = after} v f e g h =
         let crc = ap (λ (x : Framing). segmentRead (x .crc) input) (g ∙ sym (framing-of w d j hd hj)) in
-        let first : FirstAs (segmentRead (s .framing .crc) input) a v after = first-told v crc h in
+        let first : FirstWords (segmentRead (s .framing .crc) input) l v after = subst (λ (z : SegmentRead). FirstWords z l v after) crc h in
         let t = when Ready e in (
-          first .0 ∙ sym (ap (λ (x : PartsReceived). x .answer) t),
+          first .0 ∙ sym (ap (λ (x : PartsReceived). answerWords (x .answer)) t),
           first .1 ∙ sym (ap (λ (x : PartsReceived). liftedOf b d j x) t),
           first .2 ∙ sym (bytes-when Ready e),
         )

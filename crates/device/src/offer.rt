@@ -13,29 +13,27 @@ ghost use Rattle.rnic.specs.Offer.{roomsBytes, offeredOwned, offeredOwnedStore,
 ghost use Rattle.holding.specs.Offer.{offerAnswer};
 ghost use Rattle.block.specs.Device.{rnicAt};
 ghost use Rattle.block.specs.Exchange.{streamOf, withStreamOf};
+ghost use Rattle.calls.specs.Words.{offerWords};
 ghost use Rattle.device.specs.Lifted.{liftedOf, offeredOf, offeredBytesOf, offeredRoomOf, offerAnswerOf};
-use crate::receive::receive_first;
+use crate::receive::first_words;
 use block::device::load_len;
 use block::device::load_part;
 use block::framing::load_framing;
 use block::framing::store_framing;
 use block::phase::load_phase;
-use domain::Answer;
-use holding::OfferAnswer;
+use calls::words::kept_words;
+use calls::words::offered;
+use calls::words::refused_words;
 use holding::gather::Gathered;
+use holding::gather::ROOM;
+use holding::gather::ROOMS;
 use holding::gather::gather;
 use holding::gather::held_in;
 use holding::gather::held_now;
-use holding::offer_answer;
 use memory::part::Part;
 use memory::part::fits_in;
 use rdmap::framing::Framing;
 use rdmap::phase::Readiness;
-
-// How many bytes a stream's room has, and the rooms of all sixteen.
-const ROOM: usize = 2056;
-
-const ROOMS: usize = 32896;
 
 // Puts the bytes of an offer behind those that the stream of a domain's slot holds, and stores how many it
 // holds then: none where they are enough.
@@ -70,22 +68,17 @@ fn offer_fresh(
     store: &mut [u8],
     room: &mut [u8],
     bytes: &[u8],
-) -> OfferAnswer
+    answer: &mut [u64; 8],
+)
     requires { ⌜ (domain < 4) × (slot < 4) × (readiness (streamOf (rnicAt (now words)) domain slot .phase) ≡ Ready) × (framing ≡ streamOf (rnicAt (now words)) domain slot .framing) × (framing .held ≡ 0) ⌝ }
-    ensures { λ r. ⌜ (r ≡ offerAnswerOf (rnicAt (now (words .entry))) domain slot (now (room .entry)) (now (bytes .entry))) × (rnicAt (now (words .exit)) ≡ liftedOf (rnicAt (now (words .entry))) domain slot (offeredOf (rnicAt (now (words .entry))) domain slot (now (room .entry)) (now (bytes .entry)))) × (now (store .exit) ≡ offeredBytesOf (rnicAt (now (words .entry))) domain slot part (now (room .entry)) (now (bytes .entry)) (now (store .entry))) × (now (room .exit) ≡ offeredRoomOf (rnicAt (now (words .entry))) domain slot (now (room .entry)) (now (bytes .entry))) ⌝ }
+    ensures { λ _. ⌜ (now (answer .exit) ≡ offerWords (offerAnswerOf (rnicAt (now (words .entry))) domain slot (now (room .entry)) (now (bytes .entry)))) × (rnicAt (now (words .exit)) ≡ liftedOf (rnicAt (now (words .entry))) domain slot (offeredOf (rnicAt (now (words .entry))) domain slot (now (room .entry)) (now (bytes .entry)))) × (now (store .exit) ≡ offeredBytesOf (rnicAt (now (words .entry))) domain slot part (now (room .entry)) (now (bytes .entry)) (now (store .entry))) × (now (room .exit) ≡ offeredRoomOf (rnicAt (now (words .entry))) domain slot (now (room .entry)) (now (bytes .entry))) ⌝ }
 {
-    match receive_first(words, domain, slot, part, framing.crc, store, bytes) {
-        Answer::Wait(_) => {
-            hold(words, domain, slot, framing, room, bytes);
-            OfferAnswer::Kept(bytes.len())
-        }
-        Answer::Taken { total, event } => OfferAnswer::Completed {
-            taken: total,
-            total,
-            event,
-        },
-        Answer::Ended(refusal) => OfferAnswer::Ended(refusal),
-        Answer::Refused(number) => OfferAnswer::Refused(number),
+    first_words(words, domain, slot, part, framing.crc, store, bytes, answer);
+    let kind = answer[0];
+    offered(answer, 0, bytes.len() as u64);
+    if kind == 5 {
+        hold(words, domain, slot, framing, room, bytes);
+        return;
     }
 }
 
@@ -100,17 +93,29 @@ fn offer_held(
     store: &mut [u8],
     room: &mut [u8],
     bytes: &[u8],
-) -> OfferAnswer
+    answer: &mut [u64; 8],
+)
     requires { ⌜ (domain < 4) × (slot < 4) × (readiness (streamOf (rnicAt (now words)) domain slot .phase) ≡ Ready) × (framing ≡ streamOf (rnicAt (now words)) domain slot .framing) × (0 < framing .held) × (length (now room) ≡ roomBytes) ⌝ }
-    ensures { λ r. ⌜ (r ≡ offerAnswerOf (rnicAt (now (words .entry))) domain slot (now (room .entry)) (now (bytes .entry))) × (rnicAt (now (words .exit)) ≡ liftedOf (rnicAt (now (words .entry))) domain slot (offeredOf (rnicAt (now (words .entry))) domain slot (now (room .entry)) (now (bytes .entry)))) × (now (store .exit) ≡ offeredBytesOf (rnicAt (now (words .entry))) domain slot part (now (room .entry)) (now (bytes .entry)) (now (store .entry))) × (now (room .exit) ≡ offeredRoomOf (rnicAt (now (words .entry))) domain slot (now (room .entry)) (now (bytes .entry))) ⌝ }
+    ensures { λ _. ⌜ (now (answer .exit) ≡ offerWords (offerAnswerOf (rnicAt (now (words .entry))) domain slot (now (room .entry)) (now (bytes .entry)))) × (rnicAt (now (words .exit)) ≡ liftedOf (rnicAt (now (words .entry))) domain slot (offeredOf (rnicAt (now (words .entry))) domain slot (now (room .entry)) (now (bytes .entry)))) × (now (store .exit) ≡ offeredBytesOf (rnicAt (now (words .entry))) domain slot part (now (room .entry)) (now (bytes .entry)) (now (store .entry))) × (now (room .exit) ≡ offeredRoomOf (rnicAt (now (words .entry))) domain slot (now (room .entry)) (now (bytes .entry))) ⌝ }
 {
     let count = held_in(room, framing.held);
     match hold(words, domain, slot, framing, room, bytes) {
-        Gathered::Short(_) => OfferAnswer::Kept(bytes.len()),
+        Gathered::Short(_) => {
+            *answer = kept_words(bytes.len() as u64);
+        }
         Gathered::Enough(n) => {
             let pending = &room[..n];
-            let answer = receive_first(words, domain, slot, part, framing.crc, store, pending);
-            offer_answer(count, bytes.len(), answer)
+            first_words(
+                words,
+                domain,
+                slot,
+                part,
+                framing.crc,
+                store,
+                pending,
+                answer,
+            );
+            offered(answer, count as u64, bytes.len() as u64);
         }
     }
 }
@@ -124,22 +129,45 @@ fn offer_slot(
     store: &mut [u8],
     room: &mut [u8],
     bytes: &[u8],
-) -> OfferAnswer
+    answer: &mut [u64; 8],
+)
     requires { ⌜ (domain < 4) × (slot < 4) × (length (now room) ≡ roomBytes) ⌝ }
-    ensures { λ r. ⌜ (r ≡ offerAnswerOf (rnicAt (now (words .entry))) domain slot (now (room .entry)) (now (bytes .entry))) × (rnicAt (now (words .exit)) ≡ liftedOf (rnicAt (now (words .entry))) domain slot (offeredOf (rnicAt (now (words .entry))) domain slot (now (room .entry)) (now (bytes .entry)))) × (now (store .exit) ≡ offeredBytesOf (rnicAt (now (words .entry))) domain slot part (now (room .entry)) (now (bytes .entry)) (now (store .entry))) × (now (room .exit) ≡ offeredRoomOf (rnicAt (now (words .entry))) domain slot (now (room .entry)) (now (bytes .entry))) ⌝ }
+    ensures { λ _. ⌜ (now (answer .exit) ≡ offerWords (offerAnswerOf (rnicAt (now (words .entry))) domain slot (now (room .entry)) (now (bytes .entry)))) × (rnicAt (now (words .exit)) ≡ liftedOf (rnicAt (now (words .entry))) domain slot (offeredOf (rnicAt (now (words .entry))) domain slot (now (room .entry)) (now (bytes .entry)))) × (now (store .exit) ≡ offeredBytesOf (rnicAt (now (words .entry))) domain slot part (now (room .entry)) (now (bytes .entry)) (now (store .entry))) × (now (room .exit) ≡ offeredRoomOf (rnicAt (now (words .entry))) domain slot (now (room .entry)) (now (bytes .entry))) ⌝ }
 {
     let phase = load_phase(words, domain, slot);
     match phase.ready() {
         Readiness::Ready => {}
         Readiness::NotReady(number) => {
-            return OfferAnswer::Refused(number);
+            *answer = refused_words(number);
+            return;
         }
     }
     let framing = load_framing(words, domain, slot);
     if framing.held == 0 {
-        return offer_fresh(words, domain, slot, part, framing, store, room, bytes);
+        offer_fresh(
+            words,
+            domain,
+            slot,
+            part,
+            framing,
+            store,
+            room,
+            bytes,
+            answer,
+        );
+        return;
     }
-    offer_held(words, domain, slot, part, framing, store, room, bytes)
+    offer_held(
+        words,
+        domain,
+        slot,
+        part,
+        framing,
+        store,
+        room,
+        bytes,
+        answer,
+    );
 }
 
 // An offer to a stream in range, with slices of the right length: the owner is lent its own part, and the
@@ -150,9 +178,10 @@ fn offer_owned(
     rooms: &mut [u8],
     stream: u64,
     bytes: &[u8],
-) -> OfferAnswer
+    answer: &mut [u64; 8],
+)
     requires { ⌜ (stream < 16) × (length (now rooms) ≡ roomsBytes) ⌝ }
-    ensures { λ r. ⌜ (r ≡ offerAnswer (length (heldBytes (rnicAt (now (words .entry))) stream (now (rooms .entry)))) (length (now (bytes .entry))) (offeredOwned (rnicAt (now (words .entry))) (length (now (store .entry))) stream (now (rooms .entry)) (now (bytes .entry)) .answer)) × (rnicAt (now (words .exit)) ≡ offeredOwned (rnicAt (now (words .entry))) (length (now (store .entry))) stream (now (rooms .entry)) (now (bytes .entry)) .rnic) × (now (store .exit) ≡ offeredOwnedStore (rnicAt (now (words .entry))) stream (now (rooms .entry)) (now (bytes .entry)) (now (store .entry))) × (now (rooms .exit) ≡ offeredOwnedRooms (rnicAt (now (words .entry))) (length (now (store .entry))) stream (now (rooms .entry)) (now (bytes .entry))) ⌝ }
+    ensures { λ _. ⌜ (now (answer .exit) ≡ offerWords (offerAnswer (length (heldBytes (rnicAt (now (words .entry))) stream (now (rooms .entry)))) (length (now (bytes .entry))) (offeredOwned (rnicAt (now (words .entry))) (length (now (store .entry))) stream (now (rooms .entry)) (now (bytes .entry)) .answer))) × (rnicAt (now (words .exit)) ≡ offeredOwned (rnicAt (now (words .entry))) (length (now (store .entry))) stream (now (rooms .entry)) (now (bytes .entry)) .rnic) × (now (store .exit) ≡ offeredOwnedStore (rnicAt (now (words .entry))) stream (now (rooms .entry)) (now (bytes .entry)) (now (store .entry))) × (now (rooms .exit) ≡ offeredOwnedRooms (rnicAt (now (words .entry))) (length (now (store .entry))) stream (now (rooms .entry)) (now (bytes .entry))) ⌝ }
 {
     let domain = (stream / 4) as usize;
     let slot = (stream % 4) as usize;
@@ -162,7 +191,7 @@ fn offer_owned(
         let end = part.end as usize;
         let from = stream as usize * ROOM;
         let upto = from + ROOM;
-        return offer_slot(
+        offer_slot(
             words,
             domain,
             slot,
@@ -170,9 +199,11 @@ fn offer_owned(
             &mut store[start..end],
             &mut rooms[from..upto],
             bytes,
+            answer,
         );
+        return;
     }
-    OfferAnswer::Refused(9)
+    *answer = refused_words(9);
 }
 
 // Offers bytes to a stream; the store and the rooms of all streams are lent.
@@ -182,20 +213,24 @@ pub fn offer(
     rooms: &mut [u8],
     stream: u64,
     bytes: &[u8],
-) -> OfferAnswer
-    ensures { λ r. ⌜ (r ≡ rnicOfferAnswer (rnicAt (now (words .entry))) (length (now (store .entry))) stream (now (rooms .entry)) (now (bytes .entry))) × (rnicAt (now (words .exit)) ≡ rnicOffered (rnicAt (now (words .entry))) (length (now (store .entry))) stream (now (rooms .entry)) (now (bytes .entry)) .rnic) × (now (store .exit) ≡ rnicOfferedStore (rnicAt (now (words .entry))) stream (now (rooms .entry)) (now (bytes .entry)) (now (store .entry))) × (now (rooms .exit) ≡ rnicOfferedRooms (rnicAt (now (words .entry))) (length (now (store .entry))) stream (now (rooms .entry)) (now (bytes .entry))) ⌝ }
+    answer: &mut [u64; 8],
+)
+    ensures { λ _. ⌜ (now (answer .exit) ≡ offerWords (rnicOfferAnswer (rnicAt (now (words .entry))) (length (now (store .entry))) stream (now (rooms .entry)) (now (bytes .entry)))) × (rnicAt (now (words .exit)) ≡ rnicOffered (rnicAt (now (words .entry))) (length (now (store .entry))) stream (now (rooms .entry)) (now (bytes .entry)) .rnic) × (now (store .exit) ≡ rnicOfferedStore (rnicAt (now (words .entry))) stream (now (rooms .entry)) (now (bytes .entry)) (now (store .entry))) × (now (rooms .exit) ≡ rnicOfferedRooms (rnicAt (now (words .entry))) (length (now (store .entry))) stream (now (rooms .entry)) (now (bytes .entry))) ⌝ }
 {
     if stream <= 15 {
         let len = load_len(words);
         if store.len() == len as usize {
             if rooms.len() == ROOMS {
-                return offer_owned(words, store, rooms, stream, bytes);
+                offer_owned(words, store, rooms, stream, bytes, answer);
+                return;
             }
-            return OfferAnswer::Refused(2);
+            *answer = refused_words(2);
+            return;
         }
-        return OfferAnswer::Refused(2);
+        *answer = refused_words(2);
+        return;
     }
-    OfferAnswer::Refused(1)
+    *answer = refused_words(1);
 }
 
 // How many bytes a stream holds; 0 of a number that is no stream's.

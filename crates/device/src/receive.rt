@@ -8,6 +8,7 @@ ghost use Rattle.domain.specs.Parts.{partsJudged, partsPlaced, partsAnswered};
 ghost use Rattle.rnic.specs.Rnic.{domainAt, receivedOwned, receivedOwnedStore, rnicReceived, rnicReceivedStore};
 ghost use Rattle.block.specs.Device.{rnicAt};
 ghost use Rattle.block.specs.Exchange.{streamOf};
+ghost use Rattle.calls.specs.Words.{answerWords};
 ghost use Rattle.device.specs.Lifted.{liftedOf, partsReceives, partsReceivesBytes};
 use crate::apply::apply;
 use crate::apply::apply_tagged;
@@ -18,6 +19,8 @@ use block::device::load_part;
 use block::framing::load_framing;
 use block::phase::load_phase;
 use block::window::load_window;
+use calls::words::answer_words;
+use calls::words::refused_words;
 use ddp::segment::SegmentRead;
 use ddp::segment::read_segment;
 use domain::Answer;
@@ -29,7 +32,7 @@ use rdmap::phase::Readiness;
 
 // Takes the first FPDU of bytes for the open stream of a domain's slot, with the CRC on or off; the
 // domain's bytes are lent, which start at the start of its part.
-pub(crate) fn receive_first(
+fn receive_first(
     words: &mut [u64; 933],
     domain: usize,
     slot: usize,
@@ -88,6 +91,25 @@ pub(crate) fn receive_first(
     }
 }
 
+// The same, with the words of the answer. Receive and offers share it, so that it is a function of its
+// own in the program: an answer that it wrote as words is not taken apart again.
+pub(crate) fn first_words(
+    words: &mut [u64; 933],
+    domain: usize,
+    slot: usize,
+    part: Part,
+    crc: bool,
+    store: &mut [u8],
+    bytes: &[u8],
+    answer: &mut [u64; 8],
+)
+    requires { ⌜ (domain < 4) × (slot < 4) ⌝ }
+    ensures { λ _. ⌜ (now (answer .exit) ≡ answerWords (partsAnswered (streamOf (rnicAt (now (words .entry))) domain slot) (partsJudged (domainAt (rnicAt (now (words .entry))) domain .windows) domain (streamOf (rnicAt (now (words .entry))) domain slot) (now (bytes .entry)) (segmentRead crc (now (bytes .entry)))) .answer)) × (rnicAt (now (words .exit)) ≡ liftedOf (rnicAt (now (words .entry))) domain slot (partsAnswered (streamOf (rnicAt (now (words .entry))) domain slot) (partsJudged (domainAt (rnicAt (now (words .entry))) domain .windows) domain (streamOf (rnicAt (now (words .entry))) domain slot) (now (bytes .entry)) (segmentRead crc (now (bytes .entry)))))) × (now (store .exit) ≡ partsPlaced part (domainAt (rnicAt (now (words .entry))) domain .windows) domain (streamOf (rnicAt (now (words .entry))) domain slot) (now (bytes .entry)) (now (store .entry)) (segmentRead crc (now (bytes .entry)))) ⌝ }
+{
+    let done = receive_first(words, domain, slot, part, crc, store, bytes);
+    *answer = answer_words(done);
+}
+
 // Takes the first FPDU of bytes for the stream of a domain's slot; the domain's bytes are lent. 16 while the
 // stream holds bytes.
 fn receive_slot(
@@ -97,29 +119,47 @@ fn receive_slot(
     part: Part,
     store: &mut [u8],
     bytes: &[u8],
-) -> Answer
+    answer: &mut [u64; 8],
+)
     requires { ⌜ (domain < 4) × (slot < 4) ⌝ }
-    ensures { λ r. ⌜ (r ≡ partsReceives (domainAt (rnicAt (now (words .entry))) domain .windows) domain (streamOf (rnicAt (now (words .entry))) domain slot) (now (bytes .entry)) .answer) × (rnicAt (now (words .exit)) ≡ liftedOf (rnicAt (now (words .entry))) domain slot (partsReceives (domainAt (rnicAt (now (words .entry))) domain .windows) domain (streamOf (rnicAt (now (words .entry))) domain slot) (now (bytes .entry)))) × (now (store .exit) ≡ partsReceivesBytes part (domainAt (rnicAt (now (words .entry))) domain .windows) domain (streamOf (rnicAt (now (words .entry))) domain slot) (now (bytes .entry)) (now (store .entry))) ⌝ }
+    ensures { λ _. ⌜ (now (answer .exit) ≡ answerWords (partsReceives (domainAt (rnicAt (now (words .entry))) domain .windows) domain (streamOf (rnicAt (now (words .entry))) domain slot) (now (bytes .entry)) .answer)) × (rnicAt (now (words .exit)) ≡ liftedOf (rnicAt (now (words .entry))) domain slot (partsReceives (domainAt (rnicAt (now (words .entry))) domain .windows) domain (streamOf (rnicAt (now (words .entry))) domain slot) (now (bytes .entry)))) × (now (store .exit) ≡ partsReceivesBytes part (domainAt (rnicAt (now (words .entry))) domain .windows) domain (streamOf (rnicAt (now (words .entry))) domain slot) (now (bytes .entry)) (now (store .entry))) ⌝ }
 {
     let phase = load_phase(words, domain, slot);
     match phase.ready() {
         Readiness::Ready => {}
         Readiness::NotReady(number) => {
-            return Answer::Refused(number);
+            *answer = refused_words(number);
+            return;
         }
     }
     let framing = load_framing(words, domain, slot);
     if 0 < framing.held {
-        return Answer::Refused(16);
+        *answer = refused_words(16);
+        return;
     }
-    receive_first(words, domain, slot, part, framing.crc, store, bytes)
+    first_words(
+        words,
+        domain,
+        slot,
+        part,
+        framing.crc,
+        store,
+        &bytes[..],
+        answer,
+    );
 }
 
 // Takes the first FPDU of bytes for a stream in range, with a store of the right length: the owner is
 // lent its own part.
-fn receive_owned(words: &mut [u64; 933], store: &mut [u8], stream: u64, bytes: &[u8]) -> Answer
+fn receive_owned(
+    words: &mut [u64; 933],
+    store: &mut [u8],
+    stream: u64,
+    bytes: &[u8],
+    answer: &mut [u64; 8],
+)
     requires { ⌜ stream < 16 ⌝ }
-    ensures { λ r. ⌜ (r ≡ receivedOwned (rnicAt (now (words .entry))) (length (now (store .entry))) stream (now (bytes .entry)) .answer) × (rnicAt (now (words .exit)) ≡ receivedOwned (rnicAt (now (words .entry))) (length (now (store .entry))) stream (now (bytes .entry)) .rnic) × (now (store .exit) ≡ receivedOwnedStore (rnicAt (now (words .entry))) stream (now (bytes .entry)) (now (store .entry))) ⌝ }
+    ensures { λ _. ⌜ (now (answer .exit) ≡ answerWords (receivedOwned (rnicAt (now (words .entry))) (length (now (store .entry))) stream (now (bytes .entry)) .answer)) × (rnicAt (now (words .exit)) ≡ receivedOwned (rnicAt (now (words .entry))) (length (now (store .entry))) stream (now (bytes .entry)) .rnic) × (now (store .exit) ≡ receivedOwnedStore (rnicAt (now (words .entry))) stream (now (bytes .entry)) (now (store .entry))) ⌝ }
 {
     let domain = (stream / 4) as usize;
     let slot = (stream % 4) as usize;
@@ -127,21 +167,38 @@ fn receive_owned(words: &mut [u64; 933], store: &mut [u8], stream: u64, bytes: &
     if fits_in(part, store.len()) {
         let start = part.start as usize;
         let end = part.end as usize;
-        return receive_slot(words, domain, slot, part, &mut store[start..end], bytes);
+        receive_slot(
+            words,
+            domain,
+            slot,
+            part,
+            &mut store[start..end],
+            bytes,
+            answer,
+        );
+        return;
     }
-    Answer::Refused(9)
+    *answer = refused_words(9);
 }
 
 // Takes the first FPDU of bytes for a stream; the store is lent.
-pub fn receive(words: &mut [u64; 933], store: &mut [u8], stream: u64, bytes: &[u8]) -> Answer
-    ensures { λ r. ⌜ (r ≡ rnicReceived (rnicAt (now (words .entry))) (length (now (store .entry))) stream (now (bytes .entry)) .answer) × (rnicAt (now (words .exit)) ≡ rnicReceived (rnicAt (now (words .entry))) (length (now (store .entry))) stream (now (bytes .entry)) .rnic) × (now (store .exit) ≡ rnicReceivedStore (rnicAt (now (words .entry))) stream (now (bytes .entry)) (now (store .entry))) ⌝ }
+pub fn receive(
+    words: &mut [u64; 933],
+    store: &mut [u8],
+    stream: u64,
+    bytes: &[u8],
+    answer: &mut [u64; 8],
+)
+    ensures { λ _. ⌜ (now (answer .exit) ≡ answerWords (rnicReceived (rnicAt (now (words .entry))) (length (now (store .entry))) stream (now (bytes .entry)) .answer)) × (rnicAt (now (words .exit)) ≡ rnicReceived (rnicAt (now (words .entry))) (length (now (store .entry))) stream (now (bytes .entry)) .rnic) × (now (store .exit) ≡ rnicReceivedStore (rnicAt (now (words .entry))) stream (now (bytes .entry)) (now (store .entry))) ⌝ }
 {
     if stream <= 15 {
         let len = load_len(words);
         if store.len() == len as usize {
-            return receive_owned(words, store, stream, bytes);
+            receive_owned(words, store, stream, bytes, answer);
+            return;
         }
-        return Answer::Refused(2);
+        *answer = refused_words(2);
+        return;
     }
-    Answer::Refused(1)
+    *answer = refused_words(1);
 }

@@ -4,13 +4,16 @@ use Prim.Native.Nat.{ℕ, _≤_, _<_}
 use mathlib.Core.Path.{_≡_, refl, sym, ap, subst, _∙_}
 use mathlib.Core.Bool.{Bool, true, false}
 use mathlib.Core.List.{List}
+use native.Mathlib.Nat.{le-refl}
 use native.Mathlib.Omega.{arith}
 use lib.ListN.{length, take}
 use lib.Seq.{length-take-le}
+use lib.Dec.{ltb}
 use borrow.Author.Tests.{ltb-true, ltb-false, lt-ltb, le-ltb}
 use Rattle.wire.specs.Wire.{pick, be16At}
 use Rattle.wire.proofs.Laws.{be16At-take}
 use Rattle.mpa.specs.Fpdu.{maxUlpdu, neededFor}
+use Rattle.mpa.proofs.Length.{total-two, needed-low, needed-limit}
 use Rattle.memory.specs.declared.part.Part.{Part}
 use Rattle.memory.specs.declared.window.Window.{Window}
 use Rattle.ddp.specs.Refusal.{ulpduTooLong}
@@ -48,13 +51,12 @@ module _ (p : List ℕ) where
 
   -- at least two, and at most the longest FPDU
   pub needed-bounds : (2 ≤ neededOf p) × (neededOf p ≤ roomBytes)
-  needed-bounds = go (kindOf p)
+  unfolding neededOf
+  needed-bounds = go (ltb (length p) 2)
     where
-      go : Kind p → (2 ≤ neededOf p) × (neededOf p ≤ roomBytes)
-      go (few h) = (omega (arith, needed-few h), omega (arith, needed-few h))
-      go (long k) = (omega (arith, needed-long k), omega (arith, needed-long k))
-      go (begun k) = (omega (arith, needed-size (k .begun) (k .low)), omega (arith, needed-size (k .begun) (k .low), k .low))
-      go (whole k) = let e = needed-size (omega (arith, k .all)) (k .low) in (omega (arith, e), omega (arith, e, k .low))
+      go : (b : Bool) → (2 ≤ pick b 2 (neededFor (be16At p 0))) × (pick b 2 (neededFor (be16At p 0)) ≤ roomBytes)
+      go true = (le-refl 2, total-two maxUlpdu)
+      go false = (needed-low maxUlpdu (be16At p 0), needed-limit maxUlpdu (be16At p 0))
 
   -- too few: none of an FPDU's length, or a part of one
   pub data Few : Type 0 where

@@ -11,7 +11,7 @@ use Rattle.ddp.specs.Place.{placed}
 use Rattle.holding.specs.declared.gather.Gathered.{Gathered}
 use Rattle.holding.specs.declared.gather.Gathered.the-variants.{Short, Enough}
 
--- "one longest FPDU (2,056 bytes)": a stream's room
+-- "one longest FPDU", "the longest FPDU becomes 8,200": a stream's room
 abbrev pub roomBytes : ℕ
 roomBytes = totalOf maxUlpdu
 

@@ -5,9 +5,16 @@ ghost use Prim.Native.Nat.{_+_, _≤_, _<_};
 ghost use mathlib.Core.List.{_++_};
 ghost use lib.ListN.{length, getD, take};
 ghost use lib.Dec.{ltb};
-ghost use Rattle.holding.specs.Pending.{neededOf, gathered, heldNow, roomAfter};
+ghost use Rattle.holding.specs.Pending.{roomBytes, neededOf, gathered, heldNow, roomAfter};
 use ddp::place::place;
+use mpa::fpdu::MAX_FPDU;
 use mpa::fpdu::needed;
+
+// How many bytes a stream's room has: those of the longest FPDU.
+pub const ROOM: usize = MAX_FPDU;
+
+// How many the rooms of all sixteen streams have.
+pub const ROOMS: usize = 16 * ROOM;
 
 // What is pending: too little, and then so many bytes are held; or enough, of which the first so many are
 // received.
@@ -47,7 +54,7 @@ fn few(held: usize, more: usize) -> bool
 // How many bytes a receive of the pending bytes needs.
 fn needed_of(room: &[u8], held: usize, bytes: &[u8]) -> usize
     requires { ⌜ held ≤ length (now room) ⌝ }
-    ensures { λ r. ⌜ (r ≡ neededOf (take held (now (room .entry)) ++ now (bytes .entry))) × (r ≤ 2056) × (2 ≤ r) ⌝ }
+    ensures { λ r. ⌜ (r ≡ neededOf (take held (now (room .entry)) ++ now (bytes .entry))) × (r ≤ roomBytes) × (2 ≤ r) ⌝ }
 {
     if few(held, bytes.len()) {
         return 2;

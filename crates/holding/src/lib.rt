@@ -6,8 +6,7 @@
 // room. The definitions are in specs/Pending.antt and specs/Offer.antt; the crate `device` does offers
 // on a device. `receive` is a domain's receive, which is refused while its stream holds bytes.
 ghost use mathlib.Core.Path.{_≡_};
-ghost use Prim.Native.Nat.{_-_};
-ghost use Rattle.holding.specs.Offer.{holds, offerAnswer, domainReceives, domainReceivesBytes};
+ghost use Rattle.holding.specs.Offer.{holds, domainReceives, domainReceivesBytes};
 use ddp::refusal::Refusal;
 use domain::Answer;
 use domain::Domain;
@@ -40,33 +39,6 @@ fn holds(s: Stream) -> bool
         return 0 < framing.held;
     }
     false
-}
-
-// How many of an offer's bytes an FPDU of this total took, where so many were held.
-fn taken_of(total: usize, held: usize) -> usize
-    ensures { λ r. ⌜ r ≡ total - held ⌝ }
-{
-    if total < held {
-        return 0;
-    }
-    total - held
-}
-
-// What an offer of `count` bytes answers, of what receive answers to the pending bytes, where `held` of
-// them were held.
-pub fn offer_answer(held: usize, count: usize, answer: Answer) -> OfferAnswer
-    ensures { λ r. ⌜ r ≡ offerAnswer held count answer ⌝ }
-{
-    match answer {
-        Answer::Wait(_) => OfferAnswer::Kept(count),
-        Answer::Taken { total, event } => OfferAnswer::Completed {
-            taken: taken_of(total, held),
-            total,
-            event,
-        },
-        Answer::Ended(refusal) => OfferAnswer::Ended(refusal),
-        Answer::Refused(number) => OfferAnswer::Refused(number),
-    }
 }
 
 // Takes the first FPDU of bytes for a stream of the domain of this number, whose bytes are lent; 16 while

@@ -136,8 +136,8 @@ gives got want = record { got = got; want = want }
 
 abbrev log : List Check
 log =
-    -- FPDU totals for ULPDU 0, 14, 15, 18, 23, 2,048
-    gives (totalOf 0 ∷ totalOf 14 ∷ totalOf 15 ∷ totalOf 18 ∷ totalOf 23 ∷ totalOf 2048 ∷ []) (8 ∷ 20 ∷ 24 ∷ 24 ∷ 32 ∷ 2056 ∷ [])
+    -- FPDU totals for ULPDU 0, 14, 15, 18, 23, 2,048, and at the limit: 8,191, 8,192
+    gives (totalOf 0 ∷ totalOf 14 ∷ totalOf 15 ∷ totalOf 18 ∷ totalOf 23 ∷ totalOf 2048 ∷ totalOf 8191 ∷ totalOf 8192 ∷ []) (8 ∷ 20 ∷ 24 ∷ 24 ∷ 32 ∷ 2056 ∷ 8200 ∷ 8200 ∷ [])
     -- Taken 24; bytes 1,024 to 1,027 become DE AD BE EF, no other changes
     ∷ gives (answer (device 4) 4 paper) (1 ∷ 24 ∷ [])
     ∷ gives (rnicReceivedStore (device 4) 4 paper store) (put store 1024 beef)
@@ -215,9 +215,11 @@ log =
     ∷ gives (answer (begun 10) 4 paper) (6 ∷ 16 ∷ [])
     ∷ gives (answer (rnicOpened (begun 10) 5 false .rnic) 5 paper) (1 ∷ 24 ∷ [])
     ∷ gives (answer (rnicOpened (rnicClosed (begun 10) 4 .rnic) 4 false .rnic) 4 paper) (1 ∷ 24 ∷ [])
-    -- a ULPDU length of 2,049: 20; after it 5
-    ∷ gives (offers (device 4) 4 rooms (0x08 ∷ 0x01 ∷ [])) (5 ∷ 20 ∷ 1 ∷ 0 ∷ 0x00 ∷ [])
-    ∷ gives (offers (rnicOffered (device 4) 4096 4 rooms (0x08 ∷ 0x01 ∷ []) .rnic) 4 rooms paper) (6 ∷ 5 ∷ [])
+    -- a ULPDU length of 8,192: Wait 8,200, and an offer is kept; of 8,193: 20; after it 5
+    ∷ gives (answer (device 4) 4 (0x20 ∷ 0x00 ∷ [])) (0 ∷ 8200 ∷ [])
+    ∷ gives (offers (device 4) 4 rooms (0x20 ∷ 0x00 ∷ [])) (7 ∷ 2 ∷ [])
+    ∷ gives (offers (device 4) 4 rooms (0x20 ∷ 0x01 ∷ [])) (5 ∷ 20 ∷ 1 ∷ 0 ∷ 0x00 ∷ [])
+    ∷ gives (offers (rnicOffered (device 4) 4096 4 rooms (0x20 ∷ 0x01 ∷ []) .rnic) 4 rooms paper) (6 ∷ 5 ∷ [])
     -- another length of either slice: 2; a stream that is not open: 3; no stream's number: 1
     ∷ gives (offerCode (rnicOfferAnswer (device 4) 4095 4 rooms paper)) (6 ∷ 2 ∷ [])
     ∷ gives (offers (device 4) 4 (9 ∷ rooms) paper) (6 ∷ 2 ∷ [])

@@ -3,7 +3,7 @@
 use mathlib.Core.Path.{_≡_, refl, sym, ap, _∙_, subst}
 use mathlib.Core.Bool.{Bool, true, false, not}
 use mathlib.Core.List.{List, _++_, append-assoc}
-use Prim.Native.Nat.{ℕ, _+_, _≤_}
+use Prim.Native.Nat.{ℕ, _+_, _≤_, _<_}
 use native.Mathlib.Nat.{add-zero}
 use native.Mathlib.Omega.{arith}
 use lib.Dec.{ltb}
@@ -29,9 +29,10 @@ module _ (u rest : List ℕ) where
   long : totalOf (length u) ≤ length (fpduOf u ++ rest)
   long = omega (arith, length-append (fpduOf u) rest, length-fpdu u)
 
-  stated : length u ≤ maxUlpdu → be16At (fpduOf u ++ rest) 0 ≡ length u
+  -- under any limit that the two bytes of the length hold
+  stated : (limit : ℕ) → limit < 65536 → length u ≤ limit → be16At (fpduOf u ++ rest) 0 ≡ length u
   unfolding fpduOf covered
-  stated h = omega arith
+  stated limit two h = omega arith
 
   -- the four bytes after what the CRC covers
   crc-read : le32At (covered u ++ (le32 (crcOf (covered u)) ++ rest)) (coveredOf (length u)) ≡ crcOf (covered u)
@@ -55,7 +56,7 @@ module _ (u rest : List ℕ) where
       let n = length u in
       let bytes = fpduOf u ++ rest in
       ap (λ (b : Bool). pick b (Wait 2) (fpduReadOf on bytes (be16At bytes 0))) (le-ltb (length bytes) 2 (omega (arith, long)))
-      ∙ ap (fpduReadOf on bytes) (stated h)
+      ∙ ap (fpduReadOf on bytes) (stated maxUlpdu (omega arith) h)
       ∙ simp (le-ltb maxUlpdu n h, le-ltb (length bytes) (totalOf n) long, crc-there, passes on)
     where
       passes : (b : Bool) → both b (not true) ≡ false

@@ -11,9 +11,9 @@ use Rattle.wire.specs.declared.Written.the-variants.{Length, Refused as NotWrit
 use Rattle.mpa.specs.declared.FpduRead.{FpduRead}
 use Rattle.mpa.specs.declared.FpduRead.the-variants.{Wait, Refused, Taken}
 
--- "ULPDU: 0 to 2,048 bytes at this layer"
+-- "ULPDU: 0 to 2,048 bytes at this layer"; "Raise the ULPDU limit from 2,048 to 8,192 everywhere it is named"
 abbrev pub maxUlpdu : ℕ
-maxUlpdu = 2048
+maxUlpdu = 8192
 
 -- "0 to 3 pad bytes so that the total so far divides by 4", after the length (2 bytes) and n bytes of ULPDU
 abbrev pub padOf : ℕ → ℕ

@@ -21,8 +21,11 @@ ghost use Rattle.crc32c.specs.Crc.{crcOf};
 ghost use Rattle.wire.specs.Wire.{put};
 ghost use Rattle.mpa.specs.Fpdu.{maxUlpdu, padOf, coveredOf, totalOf, neededFor, covered, fpduOf, fpduWritten, fpduOut, crcRight, fpduReadOf, fpduRead};
 
-// The longest ULPDU.
-pub const MAX_ULPDU: usize = 2048;
+// The longest ULPDU. Every other length that follows from it is worked out from here.
+pub const MAX_ULPDU: usize = 8192;
+
+// The longest FPDU: that of the longest ULPDU, with its length, pad and CRC.
+pub const MAX_FPDU: usize = 2 + MAX_ULPDU + (4 - (2 + MAX_ULPDU) % 4) % 4 + 4;
 
 // How many pad bytes follow a ULPDU of n bytes.
 fn pad_length(n: usize) -> usize

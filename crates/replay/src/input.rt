@@ -3,6 +3,7 @@ use super::output::flush;
 use super::run::Run;
 use super::run::first_state;
 use super::run::run_line;
+use holding::gather::ROOMS;
 use libc::STDERR_FILENO;
 use libc::STDIN_FILENO;
 use script::word::line_end;
@@ -57,7 +58,7 @@ fn take_chunk(
     bytes: &mut [u8],
     frame: &mut [u8],
     store: &mut [u8],
-    rooms: &mut [u8; 32896],
+    rooms: &mut [u8; ROOMS],
     text: &mut [u8],
     out: &mut [u8],
 ) -> Reached {
@@ -120,7 +121,7 @@ pub fn run_script(
     bytes: &mut [u8],
     frame: &mut [u8],
     store: &mut [u8],
-    rooms: &mut [u8; 32896],
+    rooms: &mut [u8; ROOMS],
     text: &mut [u8],
     out: &mut [u8],
 ) {
@@ -180,7 +181,7 @@ fn run_rest(
     bytes: &mut [u8],
     frame: &mut [u8],
     store: &mut [u8],
-    rooms: &mut [u8; 32896],
+    rooms: &mut [u8; ROOMS],
     text: &mut [u8],
     out: &mut [u8],
 ) {

@@ -6,6 +6,8 @@
 // device, the store, the second slice and every buffer stand in `main` and are lent from there.
 ghost use mathlib.Core.Path.{_≡_};
 ghost use lib.ListN.{length};
+ghost use Rattle.rnic.specs.Offer.{roomsBytes};
+use holding::gather::ROOMS;
 
 mod input;
 mod offer;
@@ -19,11 +21,11 @@ fn new_store() -> [u8; 1048576]
     [0; 1048576]
 }
 
-// The second slice, of zeros: room for the longest FPDU, of 2,056 bytes, for each of the sixteen streams.
-fn new_rooms() -> [u8; 32896]
-    ensures { λ r. ⌜ 32896 ≡ length r ⌝ }
+// The second slice, of zeros: room for the longest FPDU, for each of the sixteen streams.
+fn new_rooms() -> [u8; ROOMS]
+    ensures { λ r. ⌜ roomsBytes ≡ length r ⌝ }
 {
-    [0; 32896]
+    [0; ROOMS]
 }
 
 // Room for the longest answer, that of `bytes` for the whole store: two digits for each byte, and the

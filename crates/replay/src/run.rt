@@ -6,6 +6,7 @@ use super::output::print_answer;
 use command::answer::bad;
 use command::args::room;
 use device::opening::open;
+use holding::gather::ROOMS;
 use report::tell;
 use request::Asked;
 use request::ask;
@@ -169,7 +170,7 @@ pub fn run_line(
     bytes: &mut [u8],
     frame: &mut [u8],
     store: &mut [u8],
-    rooms: &mut [u8; 32896],
+    rooms: &mut [u8; ROOMS],
     text: &mut [u8],
     out: &mut [u8],
 ) -> Run

@@ -12,10 +12,8 @@ ghost use Rattle.rnic.specs.Rnic.{rnicReceivedStore};
 ghost use Rattle.block.specs.Device.{rnicAt};
 ghost use Rattle.crc32c.specs.Crc.{crcRun, crcOf};
 ghost use Rattle.crc32c.specs.Shift.{joined};
-use calls::words::answer_words;
 use calls::words::close_words;
 use calls::words::count_words;
-use calls::words::offer_words;
 use calls::words::outcome_words;
 use calls::words::take_words;
 use calls::words::words;
@@ -100,8 +98,7 @@ pub extern "C" fn rnic_c_receive(
 )
     ensures { λ _. ⌜ (rnicAt (now (device .exit)) ≡ calledReceive (rnicAt (now (device .entry))) (length (now (store .entry))) stream (now (bytes .entry)) .rnic) × (now (answer .exit) ≡ calledReceive (rnicAt (now (device .entry))) (length (now (store .entry))) stream (now (bytes .entry)) .words) × (now (store .exit) ≡ rnicReceivedStore (rnicAt (now (device .entry))) stream (now (bytes .entry)) (now (store .entry))) ⌝ }
 {
-    let done = receive(device, store, stream, bytes);
-    *answer = answer_words(done);
+    receive(device, store, stream, bytes, answer);
 }
 
 // An offer: a receive of bytes that may be cut anywhere. Of an FPDU that is not complete the stream keeps the
@@ -117,8 +114,7 @@ pub extern "C" fn rnic_c_offer(
 )
     ensures { λ _. ⌜ (rnicAt (now (device .exit)) ≡ calledOffer (rnicAt (now (device .entry))) (length (now (store .entry))) stream (now (rooms .entry)) (now (bytes .entry)) .rnic) × (now (answer .exit) ≡ calledOffer (rnicAt (now (device .entry))) (length (now (store .entry))) stream (now (rooms .entry)) (now (bytes .entry)) .words) × (now (store .exit) ≡ rnicOfferedStore (rnicAt (now (device .entry))) stream (now (rooms .entry)) (now (bytes .entry)) (now (store .entry))) × (now (rooms .exit) ≡ rnicOfferedRooms (rnicAt (now (device .entry))) (length (now (store .entry))) stream (now (rooms .entry)) (now (bytes .entry))) ⌝ }
 {
-    let done = offer(device, store, rooms, stream, bytes);
-    *answer = offer_words(done);
+    offer(device, store, rooms, stream, bytes, answer);
 }
 
 // How many bytes of an FPDU that is not complete a stream holds; 0 of a number that is no stream's.

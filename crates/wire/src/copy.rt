@@ -4,8 +4,8 @@ ghost use Prim.Native.Nat.{_+_, _≤_};
 ghost use lib.ListN.{length, replicate};
 ghost use Rattle.wire.specs.Wire.{put, same};
 
-// The longest copy that goes by a block of its own: that of a ULPDU.
-const BLOCK: usize = 2048;
+// The longest copy that goes by a block of its own. It is longer than any FPDU.
+const BLOCK: usize = 16384;
 
 // Copies all of src over all of dst, which is as long, byte by byte.
 fn copy_bytes(dst: &mut [u8], src: &[u8])
@@ -20,10 +20,10 @@ fn copy_bytes(dst: &mut [u8], src: &[u8])
 }
 
 // A block of zeros.
-fn new_block() -> [u8; 2048]
-    ensures { λ r. ⌜ 2048 ≡ length r ⌝ }
+fn new_block() -> [u8; BLOCK]
+    ensures { λ r. ⌜ 16384 ≡ length r ⌝ }
 {
-    [0; 2048]
+    [0; BLOCK]
 }
 
 // Copies all of src over all of dst, which is as long. The way by the block is for the compiler: it

@@ -1,5 +1,6 @@
 //! Calls one by one: the scope paper's log, and a message of each kind.
 
+use host::raw::{ROOM, ROOMS};
 use host::{Closed, Device, Error, Event, Fault, Offered, ReadRequest, Received, Rooms, Window};
 use host::{RIGHT_READ, RIGHT_WRITE};
 
@@ -179,7 +180,7 @@ fn a_write_in_pieces() {
     assert_eq!(offer(&two[20..]), completed(4, 24));
     assert_eq!(offer(&two[24..]), completed(24, 24));
     assert_eq!(offer(&two[..3]), kept(3));
-    assert_eq!(rooms[4 * 2056..4 * 2056 + 3], WRITE[..3]);
+    assert_eq!(rooms[4 * ROOM..4 * ROOM + 3], WRITE[..3]);
     assert_eq!(store[1024..1028], [0xDE, 0xAD, 0xBE, 0xEF]);
     assert_eq!(
         [3, 4, 5, 16].map(|stream| device.held(stream)),
@@ -202,18 +203,18 @@ fn offers_refused() {
     let mut lent = [&rooms[..], &[0; 1]].concat();
     for (stream, lent_store, lent_rooms, number) in [
         (16, 0, 0, 1),
-        (4, 4095, 32_896, 2),
-        (4, 4096, 32_895, 2),
-        (4, 4096, 32_897, 2),
+        (4, 4095, ROOMS, 2),
+        (4, 4096, ROOMS - 1, 2),
+        (4, 4096, ROOMS + 1, 2),
         (0, 4096, 0, 2),
-        (0, 4096, 32_896, 3),
+        (0, 4096, ROOMS, 3),
     ] {
         let (store, rooms) = (&mut store[..lent_store], &mut lent[..lent_rooms]);
         let answer = device.offer(store, rooms, stream, &WRITE[23..]);
         assert_eq!(answer, refused(number), "{stream}");
         assert_eq!(device.held(4), 23);
     }
-    assert!(before.0 == device && before.1 == lent[..32_896]);
+    assert!(before.0 == device && before.1 == lent[..ROOMS]);
     let answer = device.offer(&mut store, &mut rooms, 4, &WRITE[23..]);
     assert_eq!(answer, completed(1, 24));
     assert_eq!(device.receive(&mut store, 4, &WRITE), taken(24));
@@ -226,7 +227,7 @@ fn what_ends_a_stream_empties_it() {
     let mut outside = WRITE;
     outside[15] = 1;
     let terminate = untagged(7, 2, &[0x12, 0x34, 0, 0]);
-    let long = [8, 1, 0, 0];
+    let long = [0x20, 1, 0, 0];
     for (bytes, cut, number) in [(&outside[..], 23, 27), (&terminate, 9, 0), (&long, 1, 20)] {
         let answer = device.offer(&mut store, &mut rooms, 4, &bytes[..cut]);
         assert_eq!(answer, kept(cut));

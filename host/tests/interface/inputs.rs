@@ -1,6 +1,6 @@
 //! Numbers and bytes of every kind.
 
-use host::raw::Arguments;
+use host::raw::{Arguments, ROOM};
 use host::{Device, Error, Rooms, Window};
 use oracle::generate::prng::Prng;
 
@@ -77,6 +77,6 @@ fn any_input() {
                 "{answer:?}"
             );
         }
-        assert!(device.held(d) <= 2056, "{d}");
+        assert!(device.held(d) as usize <= ROOM, "{d}");
     }
 }

@@ -181,8 +181,8 @@ fn held_bytes_are_counted_in_the_words() {
     for stream in 0..16 {
         // The longest FPDU but for a byte, of which the length field alone is looked at.
         let (mut bytes, mut other) = (prng.bytes(ROOM - 1), prng.bytes(ROOM - 1));
-        bytes[..2].copy_from_slice(&[8, 0]);
-        other[..2].copy_from_slice(&[8, 0]);
+        bytes[..2].copy_from_slice(&[0x20, 0]);
+        other[..2].copy_from_slice(&[0x20, 0]);
         let answer = devices[0].offer(&mut store, &mut rooms[0], stream, &bytes);
         let taken = ROOM as u64 - 1;
         assert_eq!(answer, [kind::KEPT, 0, 0, 0, 0, 0, taken, 0]);

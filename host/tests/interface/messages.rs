@@ -7,7 +7,7 @@ use oracle::refusal::Refusal;
 use oracle::sender;
 
 /// The store of the device that receives, of which every domain has a quarter.
-const STORE: usize = 65_536;
+const STORE: usize = 131_072;
 /// The place of the window, and of the buffer.
 const PLACE: u64 = 1024;
 
@@ -171,15 +171,15 @@ fn messages_are_received() {
     let mut prng = Prng::new(20);
     let mut count = 0;
     for opcode in [0, 3, 4, 5, 6] {
-        for limit in [19, 20, 33, 100, 1500, 2048] {
+        for limit in [19, 20, 33, 100, 1500, 2048, 8192] {
             for length in [
-                0, 1, 2, 5, 19, 82, 86, 1482, 1486, 1487, 2030, 2034, 2048, 5000,
+                0, 1, 2, 5, 19, 82, 86, 1482, 1486, 1487, 2030, 2034, 2048, 5000, 8174, 8178, 8192,
             ] {
                 count += deliver(&mut prng, limit, opcode, length);
             }
         }
         for _ in 0..150 {
-            let (limit, length) = (prng.between(19, 2048), prng.index(6000));
+            let (limit, length) = (prng.between(19, 8192), prng.index(12_000));
             count += deliver(&mut prng, limit, opcode, length);
         }
     }
@@ -208,8 +208,8 @@ fn any_numbers() {
         14,
         18,
         19,
-        2048,
-        2049,
+        8192,
+        8193,
         1 << 32,
         (1 << 32) - 1,
         u64::MAX,
@@ -223,7 +223,7 @@ fn any_numbers() {
     let (mut begun, mut refused) = (0, 0);
     for _ in 0..100_000 {
         let limit = match prng.percent(70) {
-            true => prng.between(19, 2048),
+            true => prng.between(19, 8192),
             false => any(&mut prng),
         };
         let length = prng.index(4);
@@ -257,7 +257,7 @@ fn any_numbers() {
         }
     }
     assert!(begun > 10_000 && refused > 10_000, "{begun} and {refused}");
-    for (limit, length, number) in [(40, 1 << 32, 1), (2049, 1 << 32, 1), (2049, 5, 12)] {
+    for (limit, length, number) in [(40, 1 << 32, 1), (8193, 1 << 32, 1), (8193, 5, 12)] {
         let error = Err(Error::Refused(number));
         assert_eq!(Message::write(limit, 0, 0, length), error);
         assert_eq!(Message::send(limit, 3, 0, 0, length), error);
@@ -267,13 +267,15 @@ fn any_numbers() {
 /// A ULPDU that is too long, and an output that is too short.
 #[test]
 fn frames_refused() {
-    let mut out = [0xA5; 2100];
-    assert_eq!(write_fpdu(&[0; 2049], &mut out), Err(Error::Refused(12)));
+    let mut out = [0xA5; 8300];
+    assert_eq!(write_fpdu(&[0; 8193], &mut out), Err(Error::Refused(12)));
     assert_eq!(
-        write_fpdu(&[0; 2048], &mut out[..2055]),
+        write_fpdu(&[0; 8192], &mut out[..8199]),
         Err(Error::Refused(13))
     );
     assert_eq!(write_fpdu(&[], &mut out[..7]), Err(Error::Refused(13)));
-    assert_eq!(out, [0xA5; 2100]);
+    assert_eq!(out, [0xA5; 8300]);
     assert_eq!(write_fpdu(&[], &mut out[..8]), Ok(8));
+    assert_eq!(write_fpdu(&[0; 8191], &mut out[..8200]), Ok(8200));
+    assert_eq!(write_fpdu(&[0; 8192], &mut out[..8200]), Ok(8200));
 }

@@ -223,7 +223,7 @@ fn begin_depth() -> usize {
     let mut message = RnicMessage { words: [0; 9] };
     let mut stack = Painted::new();
     let state = &raw mut message as usize;
-    let writes = [19, 18, 2049].map(|limit| [state, limit, 7, 8, 9, 0, 0, 0]);
+    let writes = [19, 18, 8193].map(|limit| [state, limit, 7, 8, 9, 0, 0, 0]);
     let sends = [3, 4, 7].map(|opcode| [state, 40, opcode, 1, 9, 5, 0, 0]);
     let entries = [
         (rnic_c_message_write as *const (), writes),
@@ -241,29 +241,29 @@ fn begin_depth() -> usize {
 
 /// Gives the most bytes of stack that writing the segments of a message takes, and framing one.
 fn next_depths() -> [usize; 2] {
-    let bytes = [7u8; 5000];
-    let (mut out, mut frame) = ([0u8; 2048], [0u8; 2056]);
+    let bytes = [7u8; 20_000];
+    let (mut out, mut frame) = ([0u8; ROOM - 8], [0u8; ROOM]);
     let mut answer: Written = [0; 2];
     let mut stack = Painted::new();
     let mut most = [0; 2];
-    for (limit, opcode) in [(19, 0), (2048, 0), (33, 3), (2048, 6)] {
+    for (limit, opcode) in [(19, 0), (8192, 0), (33, 3), (8192, 6)] {
         let mut message = RnicMessage { words: [0; 9] };
         let state = &raw mut message as usize;
         // SAFETY: the pointers are those of values that are held for the calls, with their lengths.
         unsafe {
             match opcode {
-                0 => rnic_c_message_write(&mut message, limit, 7, 8, 5000),
-                _ => rnic_c_message_send(&mut message, limit, opcode, 1, 9, 5000),
+                0 => rnic_c_message_write(&mut message, limit, 7, 8, 20_000),
+                _ => rnic_c_message_send(&mut message, limit, opcode, 1, 9, 20_000),
             };
             let (given, written) = (bytes.as_ptr() as usize, &raw mut answer as usize);
-            for room in [0, 2048, 2048, 2048, 2048] {
+            for room in [0, 8192, 8192, 8192, 8192] {
                 let to = out.as_mut_ptr() as usize;
-                let words = [state, given, 5000, to, room, written, 0, 0];
+                let words = [state, given, 20_000, to, room, written, 0, 0];
                 most[0] = stack
                     .call(rnic_c_message_next as *const (), words)
                     .max(most[0]);
                 let (length, end) = (out.len().min(limit as usize), frame.as_mut_ptr() as usize);
-                let words = [to, length, end, 2056 - 2048 + room, written, 0, 0, 0];
+                let words = [to, length, end, 8 + room, written, 0, 0, 0];
                 most[1] = stack
                     .call(rnic_c_fpdu_write as *const (), words)
                     .max(most[1]);

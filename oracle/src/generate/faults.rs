@@ -2,8 +2,8 @@
 
 use super::draft::{frame, Draft};
 use super::prng::Prng;
-use super::segments::{inside, live_window, stag, Kind};
-use crate::mpa::{CRC_FIELD, LENGTH_FIELD};
+use super::segments::{inside, live_window, stag, Kind, MAX_UNTAGGED};
+use crate::mpa::{CRC_FIELD, LENGTH_FIELD, MAX_ULPDU};
 use crate::rdmap;
 use crate::state::{stream_domain, Device, RIGHT_READ, RIGHT_WRITE};
 use crate::state::{WINDOWS, WINDOWS_PER_DOMAIN};
@@ -110,7 +110,7 @@ fn spoil_queue(prng: &mut Prng, device: &Device, stream: usize, draft: &mut Draf
                 1 => 0,
                 _ => 52,
             };
-            draft.payload = prng.bytes(room.min(2029) as usize + 1);
+            draft.payload = prng.bytes((room + 1).min(MAX_UNTAGGED) as usize);
         }
         10 if draft.qn > 0 => draft.cut = prng.index(30),
         _ => draft.cut = 1,
@@ -144,11 +144,13 @@ pub(super) fn damage(prng: &mut Prng, mut ulpdu: Vec<u8>, pad: u8) -> Vec<u8> {
         3 => bytes.truncate(prng.index(bytes.len())),
         4 => bytes.truncate(prng.pick(&[0, 1, 2, 3])),
         5 => {
-            let over = prng.pick(&[2049u16, 2050, 0x8000, 0xFFFF]);
-            bytes[..LENGTH_FIELD].copy_from_slice(&over.to_be_bytes());
+            let limit = MAX_ULPDU as u16;
+            let other = prng.pick(&[limit, limit + 1, limit + 2, 0x8000, 0xFFFF]);
+            bytes[..LENGTH_FIELD].copy_from_slice(&other.to_be_bytes());
         }
         6 => {
-            ulpdu.resize(prng.pick(&[2048, 2049]), 0);
+            let over = MAX_ULPDU + 1;
+            ulpdu.resize(prng.pick(&[2049, MAX_ULPDU, over, over]), 0);
             bytes = frame(&ulpdu, pad);
         }
         _ => {

@@ -39,17 +39,26 @@ pub fn line(prng: &mut Prng) -> Vec<u8> {
     }
 }
 
+/// The limit that stood before, near which lengths are still tried.
+const FORMER_LIMIT: u64 = 2048;
+
 /// Gives a length of a ULPDU: mostly short, at times near the limit or far past it.
 fn ulpdu_length(prng: &mut Prng, short: bool) -> usize {
     let length = match prng.below(100) {
         _ if short => prng.below(30),
         0..=81 => prng.below(41),
-        82..=86 => prng.between(2046, 2050),
+        82..=84 => near(prng, MAX_ULPDU as u64),
+        85 | 86 => near(prng, FORMER_LIMIT),
         87..=97 => prng.below(300),
         98 => prng.below(2500),
         _ => prng.below(9001),
     };
     length as usize
+}
+
+/// Gives a number that is at most two away from a limit.
+fn near(prng: &mut Prng, limit: u64) -> u64 {
+    prng.between(limit - 2, limit + 2)
 }
 
 /// Gives a slice's length near what is needed.
@@ -105,8 +114,10 @@ fn unframe(prng: &mut Prng, short: bool) -> String {
         15 | 16 => spoil_crc(prng, &mut frame),
         17 => frame[..LENGTH_FIELD].copy_from_slice(&prng.bytes(LENGTH_FIELD)),
         18 => {
-            let over = prng.pick(&[2048u16, 2049, 2050, 0x8000, 0xFFFF]);
-            frame[..LENGTH_FIELD].copy_from_slice(&over.to_be_bytes());
+            let former = near(prng, FORMER_LIMIT);
+            let limit = near(prng, MAX_ULPDU as u64);
+            let other = prng.pick(&[former, limit, limit, 0x8000, 0xFFFF]) as u16;
+            frame[..LENGTH_FIELD].copy_from_slice(&other.to_be_bytes());
             if prng.percent(30) {
                 frame.truncate(LENGTH_FIELD);
             }

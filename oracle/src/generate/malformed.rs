@@ -2,6 +2,7 @@
 
 use super::prng::Prng;
 use crate::command::MAX_LINE;
+use crate::state::HELD;
 
 /// Writes a good line oddly, in one of many ways.
 pub fn malform(prng: &mut Prng, line: &[u8]) -> Vec<u8> {
@@ -116,6 +117,10 @@ fn byte_fault(prng: &mut Prng, line: &[u8]) -> Vec<u8> {
 
 /// Gives a line that never was a command.
 fn other_line(prng: &mut Prng) -> Vec<u8> {
+    let (over, more) = (
+        format!("offer 0 - 0 {}", HELD + 1),
+        format!("offer 0 - 0 {HELD} 0"),
+    );
     let line: &[u8] = prng.pick(&[
         &b""[..],
         b" ",
@@ -146,8 +151,8 @@ fn other_line(prng: &mut Prng) -> Vec<u8> {
         b"offer 0",
         b"offer 0 0",
         b"offer 0 - -",
-        b"offer 0 - 0 32897",
-        b"offer 0 - 0 32896 0",
+        over.as_bytes(),
+        more.as_bytes(),
         b"held",
         b"held -",
         b"held 16",

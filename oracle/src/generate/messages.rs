@@ -8,12 +8,22 @@ use super::frames::room;
 use super::malformed::malform;
 use super::nights::{write_steps, Night, EVERY};
 use super::places::gaps;
+use super::prng::Prng;
 use super::segments::{inside, length_up_to, live_window};
+use crate::ddp::{TAGGED_HEADER, UNTAGGED_HEADER};
 use crate::hex;
+use crate::mpa::MAX_ULPDU;
 use crate::rdmap;
+use crate::sender::MIN_ULPDU;
 use crate::state::{
     stream_domain, Condition, DOMAINS, RIGHT_READ, RIGHT_WRITE, STREAMS, WINDOWS_PER_DOMAIN,
 };
+
+/// The largest size that a message may be cut to.
+const LIMIT: u64 = MAX_ULPDU as u64;
+/// Bytes of the headers of a Write's and of a Send's segments.
+const TAGGED: u64 = TAGGED_HEADER as u64;
+const UNTAGGED: u64 = UNTAGGED_HEADER as u64;
 
 /// Writes a script of `count` lines, the last of which shows the whole store.
 pub fn write_script(seed: u64, count: u64, out: impl Write) -> io::Result<()> {
@@ -25,6 +35,16 @@ pub fn write_script(seed: u64, count: u64, out: impl Write) -> io::Result<()> {
 struct Begun {
     words: String,
     length: u64,
+}
+
+/// Picks a length up to `most` for a message with this header, at times one that just fills the longest segments, or nearly
+/// so.
+fn message_length(prng: &mut Prng, header: u64, most: u64) -> u64 {
+    let full = LIMIT - header;
+    match most > full && prng.percent(15) {
+        true => prng.pick(&[full - 1, full, full + 1, (2 * full).min(most)]),
+        false => length_up_to(prng, most.min(12_000)),
+    }
 }
 
 impl Night {
@@ -45,7 +65,7 @@ impl Night {
 
     /// Opens the device with a quarter for each domain.
     fn open_quarters(&mut self) {
-        let length = self.prng.pick(&[4096u64, 16_384, 65_536]);
+        let length = self.prng.pick(&[4096u64, 16_384, 65_536, 262_144]);
         let ends: Vec<String> = (0..DOMAINS as u64)
             .map(|domain| [domain, domain + 1].map(|end| (end * length / 4).to_string()))
             .map(|ends| ends.join(" "))
@@ -76,9 +96,9 @@ impl Night {
         const OVER: u64 = 1 << 32;
         let prng = &mut self.prng;
         let limit = match prng.below(3) {
-            0 => prng.pick(&[0, 1, 14, 15, 18, 19]),
-            1 => prng.pick(&[2048, 2049, 65_536, u64::MAX]),
-            _ => prng.between(19, 2048),
+            0 => prng.pick(&[0, 1, 14, 15, 18, 19, 2049]),
+            1 => prng.pick(&[LIMIT, LIMIT + 1, 65_536, u64::MAX]),
+            _ => prng.between(MIN_ULPDU, LIMIT),
         };
         let good = prng.percent(50);
         let stag = match good {
@@ -138,10 +158,15 @@ impl Night {
     /// Picks a size for a message with this header: the ends, and others, of which some cut it into many segments.
     fn limit(&mut self, header: u64, length: u64) -> u64 {
         let prng = &mut self.prng;
-        let any = prng.between(19, 2048);
-        let limit = prng.pick(&[19, 20, 33, 100, 1500, 2048, header + 8, any]);
+        if length + header >= LIMIT && prng.percent(50) {
+            return LIMIT;
+        }
+        let any = prng.between(MIN_ULPDU, LIMIT);
+        let limit = prng.pick(&[19, 20, 33, 100, 1500, 2048, LIMIT, header + 8, any]);
         match length / (limit - header) > 12 {
-            true => prng.between(header + length / 12, 2048).clamp(19, 2048),
+            true => prng
+                .between(header + length / 12, LIMIT)
+                .clamp(MIN_ULPDU, LIMIT),
             false => limit,
         }
     }
@@ -173,10 +198,10 @@ impl Night {
             let words = format!("write 100 {} {}", prng.draw() as u32, prng.below(9999));
             return Begun { words, length: 7 };
         };
-        let length = length_up_to(prng, window.length.min(12_000));
+        let length = message_length(prng, TAGGED, window.length);
         let to = inside(prng, &window, length);
         let length = length + u64::from(prng.percent(4));
-        let limit = self.limit(14, length);
+        let limit = self.limit(TAGGED, length);
         let words = format!("write {limit} {stag} {to}");
         Begun { words, length }
     }
@@ -201,10 +226,10 @@ impl Night {
         let record = &device.streams[stream];
         let stag = live.map_or(prng.draw(), |(stag, _)| u64::from(stag));
         let space = record.buffers.first().map_or(9, |buffer| buffer.length);
-        let length = length_up_to(prng, space.min(12_000)) + u64::from(prng.percent(4));
+        let length = message_length(prng, UNTAGGED, space) + u64::from(prng.percent(4));
         let msn = u64::from(record.next_msn[0]);
         let msn = if prng.percent(4) { msn + 1 } else { msn };
-        let limit = self.limit(18, length);
+        let limit = self.limit(UNTAGGED, length);
         let words = format!("send {limit} {opcode} {msn} {stag}");
         Begun { words, length }
     }
@@ -212,7 +237,7 @@ impl Night {
     /// Asks for the segment that is next, with room that is now and then too small, and gives it.
     fn ask(&mut self, needed: usize) -> Option<Vec<u8>> {
         let room = match self.prng.percent(60) {
-            true => self.prng.pick(&[2048, 65_536, u64::MAX]),
+            true => self.prng.pick(&[LIMIT, 65_536, u64::MAX]),
             false => room(&mut self.prng, needed),
         };
         let answer = self.say(format!("segment {room}"));

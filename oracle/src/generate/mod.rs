@@ -5,6 +5,7 @@ pub mod draft;
 mod faults;
 pub mod frames;
 pub mod interleave;
+mod longest;
 pub mod malformed;
 pub mod messages;
 pub mod nights;

@@ -158,7 +158,8 @@ impl Night {
             820..=844 => self.numbered("live", domain, DOMAINS),
             845..=869 => self.numbered("free", domain, DOMAINS),
             870..=879 => self.numbered("held", stream, STREAMS),
-            880..=899 => self.show(),
+            880..=894 => self.show(),
+            895..=899 => self.longest(stream),
             900..=909 => self.fill(),
             910..=914 => self.probe(stream),
             915..=924 => self.numbered("close", stream, STREAMS),
@@ -173,7 +174,8 @@ impl Night {
             980..=984 => (0..16).for_each(|_| self.register(domain, None)),
             985..=989 => (0..8).for_each(|_| self.drop_window(domain)),
             990..=994 if self.is_whole() => self.odd_line(stream),
-            _ => self.probe(stream),
+            990..=994 => self.probe(stream),
+            _ => self.longest(stream),
         }
     }
 }

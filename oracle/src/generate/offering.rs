@@ -3,7 +3,7 @@
 use super::nights::Night;
 use super::segments::{fpdu, kind, Kind};
 use crate::hex;
-use crate::mpa::CRC_FIELD;
+use crate::mpa::{CRC_FIELD, MAX_FPDU};
 use crate::state::{HELD, STREAMS};
 
 /// The most bytes that are offered one by one.
@@ -136,7 +136,7 @@ impl Night {
             0 => held - 1,
             1 => held + 1,
             2 => self.prng.below(held),
-            3 => self.prng.pick(&[0, u64::MAX]),
+            3 => self.prng.pick(&[0, MAX_FPDU as u64, 32_896, u64::MAX]),
             _ => held,
         };
         let length = self.interpreter.device.length.min(self.store());

@@ -8,6 +8,9 @@ use crate::hex;
 use crate::rdmap;
 use crate::state::{stream_domain, RIGHT_READ, RIGHT_WRITE, STREAMS};
 
+/// The most bytes of several FPDUs in one slice; a line has room for twice as many digits.
+const BATCH: usize = 32_000;
+
 impl Night {
     /// Receives an FPDU that is most often good, now and then first cut, or with another store lent.
     pub(super) fn receive(&mut self, stream: usize) {
@@ -107,7 +110,7 @@ impl Night {
         }
     }
 
-    /// Makes several FPDUs that follow each other, tried on a copy of the device.
+    /// Makes several FPDUs that follow each other and fit into a line, tried on a copy of the device.
     pub(super) fn batch_bytes(&mut self, stream: usize, faulty: u64) -> Vec<u8> {
         let mut device = self.interpreter.device.clone();
         device.streams[stream].held.clear();
@@ -116,6 +119,9 @@ impl Night {
         for _ in 0..self.prng.between(2, 5) {
             let kind = kind(&mut self.prng);
             let bytes = fpdu(&mut self.prng, &device, stream, kind, faulty);
+            if slice.len() + bytes.len() > BATCH {
+                break;
+            }
             device.receive(&mut store, stream as u64, &bytes);
             slice.extend(bytes);
         }

@@ -3,9 +3,15 @@
 use super::draft::{frame, Draft, Sink};
 use super::faults::{damage, spoil};
 use super::prng::Prng;
+use crate::ddp::{TAGGED_HEADER, UNTAGGED_HEADER};
+use crate::mpa::MAX_ULPDU;
 use crate::rdmap;
 use crate::state::{stream_domain, Device, Window};
 use crate::state::{RIGHT_READ, RIGHT_WRITE, WINDOWS_PER_DOMAIN};
+
+/// The most bytes of payload that a tagged or an untagged segment has.
+pub(super) const MAX_TAGGED: u64 = (MAX_ULPDU - TAGGED_HEADER) as u64;
+pub(super) const MAX_UNTAGGED: u64 = (MAX_ULPDU - UNTAGGED_HEADER) as u64;
 
 /// What a segment is to carry.
 #[derive(Clone, Copy, Debug, PartialEq, Eq)]
@@ -108,7 +114,7 @@ fn write(prng: &mut Prng, device: &Device, stream: usize) -> Draft {
     draft.last = prng.percent(60);
     match live_window(prng, device, stream, RIGHT_WRITE) {
         Some((stag, window)) => {
-            let length = length_up_to(prng, window.length.min(2034));
+            let length = length_up_to(prng, window.length.min(MAX_TAGGED));
             draft.stag = stag;
             draft.to = inside(prng, &window, length);
             draft.payload = prng.bytes(length as usize);
@@ -133,7 +139,7 @@ fn send(prng: &mut Prng, device: &Device, stream: usize) -> Draft {
         draft.stag = found.map_or(draft.stag, |(stag, _)| stag);
     }
     let room = record.buffers.first().map_or(9, |buffer| buffer.length);
-    let length = length_up_to(prng, (room - record.taken).min(2030));
+    let length = length_up_to(prng, (room - record.taken).min(MAX_UNTAGGED));
     draft.payload = prng.bytes(length as usize);
     draft
 }

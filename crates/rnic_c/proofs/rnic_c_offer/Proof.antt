@@ -1,15 +1,10 @@
--- `rnic_c_offer` meets its contract: it is `offer`, and the words of its answer.
-use mathlib.Core.Path.{ap, _∙_}
+-- `rnic_c_offer` meets its contract: it is `offer`.
 use borrow.Author.Needs.{needs}
-use Rattle.calls.specs.Words.{offerWords}
 use Rattle.rnic_c.proofs.rnic_c_offer.Statement.{statement}
 use Rattle.rnic_c.proofs.rnic_c_offer.Tie as tie
 
 offer-requires : tie.Need-offer-requires
 offer-requires c κs = search needs
-
-offer-words-requires : tie.Need-offer-words-requires
-offer-words-requires c κs = search needs
 
 same-length : tie.Need-same-length
 same-length c = search needs
@@ -19,9 +14,9 @@ same-length-2 c = search needs
 
 returns : tie.Need-returns
 returns c =
-    let e = c .before .before .before .before .before .offer .ensures in
-    (e .1, c .offer-words .ensures ∙ ap offerWords (e .0), e .2, e .3)
+    let e = c .before .before .before .before .offer .ensures in
+    (e .1, e .0, e .2, e .3)
 
 pub rnic-c-offer-spec : {M : Type 1} → statement M
 rnic-c-offer-spec =
-    tie.close (tie.spec offer-requires offer-words-requires same-length same-length-2 returns)
+    tie.close (tie.spec offer-requires same-length same-length-2 returns)

@@ -14,7 +14,7 @@ const STEPS: usize = 160;
 const PLACE: usize = 512;
 /// Windows of a domain, of which the first is as long as a payload can be and stands at the end of the part.
 const WINDOWS: usize = 6;
-const LONGEST: usize = 2034;
+const LONGEST: usize = 8178;
 
 /// A step of a night: a line of the host, or bytes that came for streams of different domains.
 pub enum Step {
@@ -122,7 +122,7 @@ impl Maker {
             let mut buffers = streams.iter().flat_map(|stream| stream.buffers.iter());
             buffers.all(|buffer| buffer.start != *start as u64)
         };
-        let mut places = (WINDOWS..PART / PLACE - 4).map(|at| domain * PART + at * PLACE);
+        let mut places = (WINDOWS..(PART - LONGEST) / PLACE).map(|at| domain * PART + at * PLACE);
         let start = places.find(is_free).unwrap_or(domain * PART);
         self.host(format!("post {stream} {start} {PLACE}"))
     }

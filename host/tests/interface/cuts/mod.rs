@@ -16,7 +16,7 @@ use received::Received;
 use run::{Cut, Run};
 
 /// Bytes of the store, of which each domain has a quarter.
-const STORE: usize = 65_536;
+const STORE: usize = 131_072;
 /// Bytes of a domain's part.
 const PART: usize = STORE / 4;
 

@@ -11,8 +11,10 @@ use borrow.Author.Tests.{le-leb}
 use Rattle.memory.proofs.Laws.{fits-ends}
 use Rattle.memory.specs.declared.part.Part.{Part}
 use Rattle.memory.specs.Part.{partFits}
+use Rattle.holding.specs.Pending.{roomBytes}
 use Rattle.holding.specs.Offer.{domainOffered, domainOfferedBytes}
 use Rattle.rnic.specs.Offer.{offeredOwned, offeredOwnedStore, offeredOwnedRooms}
+use Rattle.calls.specs.Words.{offerWords}
 use Rattle.block.proofs.Stored.{part-at}
 use borrow.Author.Needs.{needs}
 use Rattle.device.proofs.offer.offer_owned.Statement.{statement}
@@ -66,26 +68,29 @@ same-length-2 c = search needs
 returns : tie.Need-returns
 unfolding offeredOwned offeredOwnedStore offeredOwnedRooms domainOffered domainOfferedBytes
 returns c =
-    let a = c .before .before .before .before .before .before .before .before .before .before .before .before .before .before .before .before .before .args in
-    let own = c .before .before .before .before .before .before .before .before .before .before .before .before .load-part .ensures ∙ sym (part-at (a .words .now) _ (search needs)) in
-    let fits = ap (λ (p : Part). partFits p (length (a .store .now))) (sym own) ∙ sym (c .before .before .before .before .before .before .before .before .before .before .before .fits-in .ensures) ∙ c .before .before .before .before .before .before .before .before .before .before .if1 .taken in
+    let a = c .before .before .before .before .before .before .before .before .before .before .before .before .before .before .before .before .before .before .args in
+    let own = c .before .before .before .before .before .before .before .before .before .before .before .before .before .load-part .ensures ∙ sym (part-at (a .words .now) _ (search needs)) in
+    let fits = ap (λ (p : Part). partFits p (length (a .store .now))) (sym own) ∙ sym (c .before .before .before .before .before .before .before .before .before .before .before .before .fits-in .ensures) ∙ c .before .before .before .before .before .before .before .before .before .before .before .if1 .taken in
     let k = le-leb (a .stream % 4) 3 (omega arith) in
     let e = c .before .before .before .before .offer-slot .ensures in
     let b = rnicAt (a .words .now) in
-    let room : a .stream * 2056 + 2056 - a .stream * 2056 ≡ 2056 = omega arith in
-    let answer = e .0 ∙ ap (λ (m : ℕ). offerAnswerOf b (a .stream / 4) (a .stream % 4) (midOf (a .stream * 2056) m (a .rooms .now)) (a .bytes .now)) room in
-    let device = e .1 ∙ ap (λ (m : ℕ). liftedOf b (a .stream / 4) (a .stream % 4) (offeredOf b (a .stream / 4) (a .stream % 4) (midOf (a .stream * 2056) m (a .rooms .now)) (a .bytes .now))) room in
-    let bytes = e .2 ∙ (λ i. offeredBytesOf b (a .stream / 4) (a .stream % 4) (own i) (midOf (a .stream * 2056) (room i) (a .rooms .now)) (a .bytes .now) (midOf (own i .start) (own i .end - own i .start) (a .store .now))) in
-    let after = e .3 ∙ ap (λ (m : ℕ). offeredRoomOf b (a .stream / 4) (a .stream % 4) (midOf (a .stream * 2056) m (a .rooms .now)) (a .bytes .now)) room in
-    (simp (fits, k) answer, simp (fits, k) device, simp (fits, k) (λ i. putMid (own i .start) (own i .end - own i .start) (a .store .now) (bytes i)), simp fits (ap₂ (λ (m : ℕ) (l : List ℕ). putMid (a .stream * 2056) m (a .rooms .now) l) room after))
+    let room : a .stream * roomBytes + roomBytes - a .stream * roomBytes ≡ roomBytes = omega arith in
+    let answer = e .0 ∙ ap (λ (m : ℕ). offerWords (offerAnswerOf b (a .stream / 4) (a .stream % 4) (midOf (a .stream * roomBytes) m (a .rooms .now)) (a .bytes .now))) room in
+    let device = e .1 ∙ ap (λ (m : ℕ). liftedOf b (a .stream / 4) (a .stream % 4) (offeredOf b (a .stream / 4) (a .stream % 4) (midOf (a .stream * roomBytes) m (a .rooms .now)) (a .bytes .now))) room in
+    let bytes = e .2 ∙ (λ i. offeredBytesOf b (a .stream / 4) (a .stream % 4) (own i) (midOf (a .stream * roomBytes) (room i) (a .rooms .now)) (a .bytes .now) (midOf (own i .start) (own i .end - own i .start) (a .store .now))) in
+    let after = e .3 ∙ ap (λ (m : ℕ). offeredRoomOf b (a .stream / 4) (a .stream % 4) (midOf (a .stream * roomBytes) m (a .rooms .now)) (a .bytes .now)) room in
+    (simp (fits, k) answer, simp (fits, k) device, simp (fits, k) (λ i. putMid (own i .start) (own i .end - own i .start) (a .store .now) (bytes i)), simp fits (ap₂ (λ (m : ℕ) (l : List ℕ). putMid (a .stream * roomBytes) m (a .rooms .now) l) room after))
+
+refused-words-requires : tie.Need-refused-words-requires
+refused-words-requires c κs = search needs
 
 returns-2 : tie.Need-returns-2
 unfolding offeredOwned offeredOwnedStore offeredOwnedRooms
 returns-2 c =
-    let a = c .before .before .before .before .before .before .before .args in
-    let own = c .before .before .load-part .ensures ∙ sym (part-at (a .words .now) _ (search needs)) in
-    let fits = ap (λ (p : Part). partFits p (length (a .store .now))) (sym own) ∙ sym (c .before .fits-in .ensures) ∙ c .if1 .left in
-    (simp fits, simp fits, simp fits, simp fits)
+    let a = c .before .before .before .before .before .before .before .before .args in
+    let own = c .before .before .before .load-part .ensures ∙ sym (part-at (a .words .now) _ (search needs)) in
+    let fits = ap (λ (p : Part). partFits p (length (a .store .now))) (sym own) ∙ sym (c .before .before .fits-in .ensures) ∙ c .before .if1 .left in
+    (simp fits (c .refused-words .ensures), simp fits, simp fits, simp fits)
 
 pub offer-owned-spec : {M : Type 1} → statement M
 offer-owned-spec =
@@ -107,4 +112,5 @@ offer-owned-spec =
     same-length
     same-length-2
     returns
+    refused-words-requires
     returns-2)

@@ -20,25 +20,29 @@ enum-told c = search needs
 enum-known-number : tie.Need-enum-known-number
 enum-known-number c = search needs
 
+refused-words-requires : tie.Need-refused-words-requires
+refused-words-requires c κs = search needs
+
 returns : tie.Need-returns
 returns c =
-    let a = c .before .before .before .before .before .before .before .before .before .args in
-    let h = c .before .before .before .before .before .before .before .before .before .pre in
-    offer-shut (a .words .now) (a .domain) (a .slot) (h .0) (h .1) (a .part) (a .bytes .now) (a .store .now) (a .room .now) _
-    (ap readiness (sym (c .before .before .before .before .load-phase .ensures)) ∙ sym (c .before .before .before .ready .ensures) ∙ c .before .number .given .1)
+    let a = c .before .before .before .before .before .before .before .before .before .before .args in
+    let h = c .before .before .before .before .before .before .before .before .before .before .pre in
+    let t = offer-shut (a .words .now) (a .domain) (a .slot) (h .0) (h .1) (a .part) (a .bytes .now) (a .store .now) (a .room .now) _
+    (ap readiness (sym (c .before .before .before .before .before .load-phase .ensures)) ∙ sym (c .before .before .before .before .ready .ensures) ∙ c .before .before .number .given .1) in
+    (c .refused-words .ensures ∙ t .0, t .1, t .2, t .3)
 
 load-framing-requires : tie.Need-load-framing-requires
 load-framing-requires c κs = search needs
 
 offer-fresh-requires : tie.Need-offer-fresh-requires
 offer-fresh-requires c κs =
-    let a = c .before .before .before .before .before .before .before .before .before .before .before .before .before .before .before .args in
-    let h = c .before .before .before .before .before .before .before .before .before .before .before .before .before .before .before .pre in (
+    let a = c .before .before .before .before .before .before .before .before .before .before .before .before .before .before .before .before .args in
+    let h = c .before .before .before .before .before .before .before .before .before .before .before .before .before .before .before .before .pre in (
       h .0,
       h .1,
-      ap readiness (phase-of (a .words .now) (a .domain) (a .slot) (h .0) (h .1) ∙ sym (c .before .before .before .before .before .before .before .before .before .before .load-phase .ensures)) ∙ sym (c .before .before .before .before .before .before .before .before .before .ready .ensures) ∙ c .before .before .before .before .before .before .before .enum-told .given .1,
-      c .before .before .before .before .before .load-framing .ensures ∙ sym (framing-of (a .words .now) (a .domain) (a .slot) (h .0) (h .1)),
-      c .before .before .before .if1 .taken,
+      ap readiness (phase-of (a .words .now) (a .domain) (a .slot) (h .0) (h .1) ∙ sym (c .before .before .before .before .before .before .before .before .before .before .before .load-phase .ensures)) ∙ sym (c .before .before .before .before .before .before .before .before .before .before .ready .ensures) ∙ c .before .before .before .before .before .before .before .before .enum-told .given .1,
+      c .before .before .before .before .before .before .load-framing .ensures ∙ sym (framing-of (a .words .now) (a .domain) (a .slot) (h .0) (h .1)),
+      c .before .before .before .before .if1 .taken,
     )
 
 same-length : tie.Need-same-length
@@ -52,13 +56,13 @@ returns-2 c = search needs
 
 offer-held-requires : tie.Need-offer-held-requires
 offer-held-requires c κs =
-    let a = c .before .before .before .before .before .before .before .before .before .before .before .before .before .before .before .args in
-    let h = c .before .before .before .before .before .before .before .before .before .before .before .before .before .before .before .pre in
-    let some = c .before .before .before .if1 .left in (
+    let a = c .before .before .before .before .before .before .before .before .before .before .before .before .before .before .before .before .args in
+    let h = c .before .before .before .before .before .before .before .before .before .before .before .before .before .before .before .before .pre in
+    let some = c .before .before .before .before .if1 .left in (
       h .0,
       h .1,
-      ap readiness (phase-of (a .words .now) (a .domain) (a .slot) (h .0) (h .1) ∙ sym (c .before .before .before .before .before .before .before .before .before .before .load-phase .ensures)) ∙ sym (c .before .before .before .before .before .before .before .before .before .ready .ensures) ∙ c .before .before .before .before .before .before .before .enum-told .given .1,
-      c .before .before .before .before .before .load-framing .ensures ∙ sym (framing-of (a .words .now) (a .domain) (a .slot) (h .0) (h .1)),
+      ap readiness (phase-of (a .words .now) (a .domain) (a .slot) (h .0) (h .1) ∙ sym (c .before .before .before .before .before .before .before .before .before .before .before .load-phase .ensures)) ∙ sym (c .before .before .before .before .before .before .before .before .before .before .ready .ensures) ∙ c .before .before .before .before .before .before .before .before .enum-told .given .1,
+      c .before .before .before .before .before .before .load-framing .ensures ∙ sym (framing-of (a .words .now) (a .domain) (a .slot) (h .0) (h .1)),
       omega (arith, some),
       h .2,
     )
@@ -80,6 +84,7 @@ offer-slot-spec =
     ready-requires
     enum-told
     enum-known-number
+    refused-words-requires
     returns
     load-framing-requires
     offer-fresh-requires

@@ -4,7 +4,7 @@ use Rattle.wire.proofs.copy.new_block.Statement.{statement}
 use Rattle.wire.proofs.copy.new_block.Tie as tie
 
 returns : tie.Need-returns
-returns c = zeros-long 2048
+returns c = zeros-long _
 
 pub new-block-spec : {M : Type 1} → statement M
 new-block-spec = tie.close (tie.spec returns)
