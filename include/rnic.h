@@ -27,7 +27,7 @@ extern "C" {
 #endif
 
 /* How many words a device has. */
-#define RNIC_C_DEVICE_WORDS 933
+#define RNIC_C_DEVICE_WORDS 945
 
 /* A device. What each word means is nobody's business. */
 struct rnic {
@@ -55,7 +55,11 @@ struct rnic {
 #define RNIC_C_ROOM 8200
 #define RNIC_C_ROOMS 131200
 
-/* The calls, with the numbers that each takes of a[0] to a[8]; it looks at no other. */
+/* The calls, with the numbers that each takes of a[0] to a[8]; it looks at no other.
+ *
+ * Each domain has a gauge of how busy it is. RNIC_TICK makes the count of the bytes that Writes and Sends placed for the domain
+ * since its last tick, at most 2^32 - 1, a sample. The first sample sets level and peak; from then on the level goes an eighth of
+ * the way to each sample, and the peak is the highest level so far. */
 enum rnic_call {
     RNIC_OPEN = 0,         /* store length, then start and end of each domain's part: s0 e0 s1 e1 s2 e2 s3 e3 */
     RNIC_OPEN_STREAM = 1,  /* stream, CRC: 0 off, anything else on */
@@ -67,7 +71,9 @@ enum rnic_call {
     RNIC_TAKE = 6,         /* stream */
     RNIC_LIVE_COUNT = 7,   /* domain */
     RNIC_LOWEST_FREE = 8,  /* domain */
-    RNIC_RECEIVE = 9       /* stream; it alone looks at the bytes and the store: 16 while the stream holds bytes of an offer */
+    RNIC_RECEIVE = 9,      /* stream; it alone looks at the bytes and the store: 16 while the stream holds bytes of an offer */
+    RNIC_TICK = 10,        /* domain */
+    RNIC_READING = 11      /* domain */
     /* any other number answers RNIC_REFUSED 1 and changes nothing */
 };
 
@@ -84,7 +90,10 @@ enum rnic_answer {
     RNIC_SENT_INVALIDATING = 8, /* the same, and the STag that it invalidated */
     RNIC_TERMINATED = 9,        /* the FPDU's total, layer, error type, error code */
     RNIC_ENDED = 10,            /* a refusal of the peer's bytes, which ended the stream: number, layer, type, code */
-    RNIC_KEPT = 11              /* of an offer alone: no FPDU is whole, and the stream holds all of the bytes */
+    RNIC_KEPT = 11,             /* of an offer alone: no FPDU is whole, and the stream holds all of the bytes */
+    RNIC_QUIET = 12,            /* of RNIC_READING, as the two below: before the first tick, or a level under 1 */
+    RNIC_STEADY = 13,           /* the gauge's level: its bits, as an IEEE 754 binary64 has them */
+    RNIC_FALLING = 14           /* level and peak, in the same way: the level is under half the peak */
     /* of an offer, word RNIC_C_OFFER_TAKEN of the kinds 6 to 9 and 11 says how many bytes of this call were taken */
 };
 

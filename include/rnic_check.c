@@ -107,7 +107,7 @@ static void expect_rooms(void) {
 
 /* The same Write as below in three pieces, the last with the front of the next: on a copy of the device. */
 static void check_offer(void) {
-    static struct rnic three[3];
+    static struct rnic three[3], received;
     const uint8_t f[] = {0, 18, 0xC1, 0x40, 0, 0, 0, 7, 0, 0, 0, 0, 0, 0, 0, 8, 'o', 'f', 'e', 'r', 0, 0, 0, 0, 0, 18};
     uint64_t a[RNIC_C_ARGUMENTS] = {0}, answer[RNIC_C_WORDS];
     memset(rooms, 0x5A, sizeof rooms);
@@ -126,8 +126,14 @@ static void check_offer(void) {
     expect("offer to no stream", answer, RNIC_REFUSED, 1, 0);
     offer("offer of the rest", three, f + 19, 7, RNIC_TAKEN, 24, 5);
     expect_held(&three[1], f, 0);
-    if (memcmp(store + 108, "ofer", 4) != 0 || memcmp(&three[1], &device, sizeof device) != 0) {
-        puts("offer: the payload is not in its place, or the device is another");
+    if (memcmp(store + 108, "ofer", 4) != 0) {
+        puts("offer: the payload is not in its place");
+        wrong = 1;
+    }
+    received = device;
+    rnic_c_receive(&received, store, STORE, 0, f, 24, answer);
+    if (memcmp(&three[1], &received, sizeof received) != 0) {
+        puts("offer: the device is another than after the same bytes received");
         wrong = 1;
     }
     offer("offer of what is left", three, f + 24, 2, RNIC_KEPT, 0, 2);
@@ -166,6 +172,21 @@ static void check_write(void) {
     f[2] = 0xC0;
     rnic_c_receive(&device, store, STORE, 0, f, sizeof f, answer);
     expect("receive of a bad version", answer, RNIC_ENDED, 23, 1);
+}
+
+/* The gauge of domain 0, for which Writes placed eight bytes: a first sample of 8, and then of 0. */
+static void check_gauge(void) {
+    const uint64_t eight = 0x4020000000000000, below = 0x400CB91000000000; /* 8, and 8 * (7 / 8)^6 */
+    call("reading before a tick", RNIC_READING, 0, 0, 0, 0, 0, 0, RNIC_QUIET, 0, 0);
+    call("tick", RNIC_TICK, 0, 0, 0, 0, 0, 0, RNIC_DONE, 0, 0);
+    call("reading", RNIC_READING, 0, 0, 0, 0, 0, 0, RNIC_STEADY, eight, 0);
+    for (int i = 0; i < 6; ++i) {
+        call("tick with nothing placed", RNIC_TICK, 0, 0, 0, 0, 0, 0, RNIC_DONE, 0, 0);
+    }
+    call("reading under half the peak", RNIC_READING, 0, 0, 0, 0, 0, 0, RNIC_FALLING, below, eight);
+    call("reading of another domain", RNIC_READING, 1, 0, 0, 0, 0, 0, RNIC_QUIET, 0, 0);
+    call("tick of no domain", RNIC_TICK, 4, 0, 0, 0, 0, 0, RNIC_REFUSED, 1, 0);
+    call("reading of no domain", RNIC_READING, 4, 0, 0, 0, 0, 0, RNIC_REFUSED, 1, 0);
 }
 
 /* The check value, whole, and cut at each place: carried on, and joined. */
@@ -277,11 +298,12 @@ int main(void) {
     call("take", RNIC_TAKE, 0, 0, 0, 0, 0, 0, RNIC_REFUSED, 11, 0);
     check_offer();
     check_write();
+    check_gauge();
     call("drop_window", RNIC_DROP_WINDOW, 0, 0, 0, 0, 0, 0, RNIC_DONE, 0, 0);
     call("close_stream", RNIC_CLOSE_STREAM, 0, 0, 0, 0, 0, 0, RNIC_CLOSED, 1, 0);
     check_crc();
     check_message();
-    call("no call", 10, 0, 0, 0, 0, 0, 0, RNIC_REFUSED, 1, 0);
+    call("no call", 12, 0, 0, 0, 0, 0, 0, RNIC_REFUSED, 1, 0);
     if (!wrong) {
         puts("ok");
     }

@@ -48,6 +48,8 @@ pub enum Step {
     Take(u64),
     Live(u64),
     Free(u64),
+    Tick(u64),
+    Reading(u64),
     /// Receives the act's FPDU.
     Receive(u64),
     /// Receives the first half of it.
@@ -218,6 +220,8 @@ impl<R: Receiver> Bed<R> {
             Step::Take(stream) => device.take(stream),
             Step::Live(domain) => device.live(black_box(domain)),
             Step::Free(domain) => device.free(black_box(domain)),
+            Step::Tick(domain) => device.tick(black_box(domain)),
+            Step::Reading(domain) => device.reading(black_box(domain)),
             Step::Receive(stream) => {
                 let bytes = black_box(&self.bytes[..]);
                 device.receive(&mut self.store, stream, bytes)

@@ -20,6 +20,8 @@ fn acts() -> Vec<(Act, f64)> {
         (register_and_drop(), 8.0),
         (live(), 6.0),
         (free(), 6.0),
+        (tick(), 6.0),
+        (reading(), 6.0),
     ]
 }
 
@@ -103,6 +105,17 @@ pub fn live() -> Act {
 /// Asks for the lowest free slot.
 pub fn free() -> Act {
     act!("free", [Step::Free(0)], Vec::new())
+}
+
+/// Makes a sample of a count, which is 0.
+pub fn tick() -> Act {
+    act!("tick", [Step::Tick(0)], Vec::new())
+}
+
+/// Asks for the reading of a gauge that is steady.
+pub fn reading() -> Act {
+    let bytes = frame(&write_of(64).ulpdu(), 0);
+    act!("reading", [Step::Reading(0)], bytes).after(&[RECEIVE, Step::Tick(0)])
 }
 
 /// Drafts a Write of so many bytes into the window that stays.

@@ -87,7 +87,7 @@ fn named(name: impl Into<String>, act: Act, step: Step) -> Counted {
 }
 
 /// Gives the calls of the host.
-fn of_the_host() -> [Counted; 9] {
+fn of_the_host() -> [Counted; 11] {
     let open = act!("", [Step::Open], Vec::new());
     let (opened, closed) = (Step::OpenStream(OTHER, false), Step::Close(OTHER));
     let (live, free) = (Step::Live(0), Step::Free(0));
@@ -101,6 +101,8 @@ fn of_the_host() -> [Counted; 9] {
         named("take", calls::read_and_take(), Step::Take(STREAM)),
         named("live_count", calls::live(), live),
         named("lowest_free", calls::free(), free),
+        named("tick", calls::tick(), Step::Tick(0)),
+        named("reading", calls::reading(), Step::Reading(0)),
     ]
 }
 

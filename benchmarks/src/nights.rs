@@ -107,7 +107,9 @@ fn call(line: &[u8], crc: bool, lent: &mut usize) -> Option<Call> {
         | Command::Post { .. }
         | Command::Take(_)
         | Command::Live(_)
-        | Command::Free(_) => (),
+        | Command::Free(_)
+        | Command::Tick(_)
+        | Command::Reading(_) => (),
         _ => return None,
     }
     let lent = own.map_or(*lent, |own| own as usize);
@@ -196,6 +198,8 @@ fn make<R: Receiver>(device: &mut R, lent: &mut Lent, call: &Call) -> Outcome {
         Command::Take(stream) => device.take(stream),
         Command::Live(domain) => device.live(domain),
         Command::Free(domain) => device.free(domain),
+        Command::Tick(domain) => device.tick(domain),
+        Command::Reading(domain) => device.reading(domain),
         _ => unreachable!("no call of the device"),
     }
 }

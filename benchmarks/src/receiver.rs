@@ -2,7 +2,8 @@
 
 use std::marker::PhantomData;
 
-use host::{Error, Offered, Received, Window};
+use host::{Error, Offered, Reading, Received, Window};
+use oracle::gauge::Reading as SecondReading;
 use oracle::mpa::{read_fpdu, Frame, CRC_FIELD};
 use oracle::offer::Offered as SecondOffered;
 use oracle::receive::{Answer, Event as SecondEvent};
@@ -18,6 +19,8 @@ pub enum Outcome {
     Done,
     /// A question's answer.
     Counted(u64),
+    /// A gauge's reading: the bits of its level and of its peak, 0 for one that it does not give.
+    Gauged { level: u64, peak: u64 },
     /// So many bytes are waited for.
     Wait(usize),
     /// An FPDU of this total was taken, which completes a Send or not.
@@ -32,6 +35,14 @@ pub enum Outcome {
     },
     /// The number of a refusal, of the host's call or of the peer's bytes.
     Refused(u8),
+}
+
+/// Gives the outcome of a reading.
+fn gauged(level: f64, peak: f64) -> Outcome {
+    Outcome::Gauged {
+        level: level.to_bits(),
+        peak: peak.to_bits(),
+    }
 }
 
 /// A receiver that can be set up and timed.
@@ -56,6 +67,10 @@ pub trait Receiver {
     fn live(&mut self, domain: u64) -> Outcome;
     /// Gives a domain's lowest free slot.
     fn free(&mut self, domain: u64) -> Outcome;
+    /// Makes the count of the bytes placed for a domain a sample of its gauge.
+    fn tick(&mut self, domain: u64) -> Outcome;
+    /// Asks what a domain's gauge reads as.
+    fn reading(&mut self, domain: u64) -> Outcome;
     /// Takes an FPDU.
     fn receive(&mut self, store: &mut [u8], stream: u64, bytes: &[u8]) -> Outcome;
     /// Takes bytes of an FPDU, or keeps them.
@@ -120,6 +135,19 @@ impl Receiver for Ours {
     fn free(&mut self, domain: u64) -> Outcome {
         let slot = host::Device::lowest_free(self, domain);
         ours(slot, |slot| Outcome::Counted(u64::from(slot)))
+    }
+
+    fn tick(&mut self, domain: u64) -> Outcome {
+        ours(host::Device::tick(self, domain), |()| Outcome::Done)
+    }
+
+    fn reading(&mut self, domain: u64) -> Outcome {
+        let reading = host::Device::reading(self, domain);
+        ours(reading, |reading| match reading {
+            Reading::Quiet => gauged(0.0, 0.0),
+            Reading::Steady(level) => gauged(level, 0.0),
+            Reading::Falling { level, peak } => gauged(level, peak),
+        })
     }
 
     fn receive(&mut self, store: &mut [u8], stream: u64, bytes: &[u8]) -> Outcome {
@@ -212,6 +240,19 @@ impl Receiver for Second {
     fn free(&mut self, domain: u64) -> Outcome {
         let slot = Second::free(self, domain);
         second(slot, |slot| Outcome::Counted(slot as u64))
+    }
+
+    fn tick(&mut self, domain: u64) -> Outcome {
+        second(Second::tick(self, domain), |()| Outcome::Done)
+    }
+
+    fn reading(&mut self, domain: u64) -> Outcome {
+        let reading = Second::reading(self, domain);
+        second(reading, |reading| match reading {
+            SecondReading::Quiet => gauged(0.0, 0.0),
+            SecondReading::Steady { level } => gauged(level, 0.0),
+            SecondReading::Falling { level, peak } => gauged(level, peak),
+        })
     }
 
     fn receive(&mut self, store: &mut [u8], stream: u64, bytes: &[u8]) -> Outcome {
@@ -356,6 +397,14 @@ impl<C: Routine> Receiver for Checked<C> {
 
     fn free(&mut self, domain: u64) -> Outcome {
         Receiver::free(&mut self.device, domain)
+    }
+
+    fn tick(&mut self, domain: u64) -> Outcome {
+        Receiver::tick(&mut self.device, domain)
+    }
+
+    fn reading(&mut self, domain: u64) -> Outcome {
+        Receiver::reading(&mut self.device, domain)
     }
 
     fn receive(&mut self, store: &mut [u8], stream: u64, bytes: &[u8]) -> Outcome {

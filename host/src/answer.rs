@@ -42,6 +42,17 @@ pub struct ReadRequest {
     pub source_to: u64,
 }
 
+/// What a domain's gauge reads as.
+#[derive(Clone, Copy, Debug, PartialEq)]
+pub enum Reading {
+    /// There was no tick yet, or the level is under 1.
+    Quiet,
+    /// The level.
+    Steady(f64),
+    /// The level is under half the peak that it has had.
+    Falling { level: f64, peak: f64 },
+}
+
 /// What receive gives where it is not refused.
 #[derive(Clone, Copy, Debug, PartialEq, Eq)]
 pub enum Received {

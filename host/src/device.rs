@@ -3,7 +3,7 @@
 use std::fmt;
 use std::ops::Range;
 
-use crate::answer::{Closed, Error, Offered, ReadRequest, Received};
+use crate::answer::{Closed, Error, Offered, ReadRequest, Reading, Received};
 use crate::raw::{self, call, Arguments, Rnic, Words};
 use crate::words;
 
@@ -117,6 +117,19 @@ impl Device {
     #[inline]
     pub fn lowest_free(&mut self, domain: u64) -> Result<u32, Error> {
         words::counted(&self.call(call::LOWEST_FREE, &[domain]))
+    }
+
+    /// Takes the count of the bytes placed for a domain since its last tick as a sample of its gauge, and clears it. The first
+    /// sample sets the gauge's level and its peak; from then on the level goes an eighth of the way to each.
+    #[inline]
+    pub fn tick(&mut self, domain: u64) -> Result<(), Error> {
+        words::done(&self.call(call::TICK, &[domain]))
+    }
+
+    /// Gives what a domain's gauge reads as.
+    #[inline]
+    pub fn reading(&mut self, domain: u64) -> Result<Reading, Error> {
+        words::reading(&self.call(call::READING, &[domain]))
     }
 
     /// Takes the first FPDU of some bytes for a stream; the whole store is lent. It is refused with 16 while the stream holds

@@ -3,12 +3,12 @@
 //! [`Device`] holds the state of four protection domains; the program keeps the store, up to 16 MiB, and lends it at
 //! each [`Device::receive`] and [`Device::offer`]. Every function answers whatever the numbers and bytes are, and none
 //! panics. The work is done by the proved static library; here its answer words become [`Received`], [`Offered`],
-//! [`Closed`], [`ReadRequest`] or [`Error`], and the words of the state are kept where nothing else writes them.
+//! [`Closed`], [`ReadRequest`], [`Reading`] or [`Error`], and the words of the state are kept where nothing else writes them.
 //!
-//! A peer writes four bytes into a window:
+//! A peer writes four bytes into a window, which its domain's gauge counts:
 //!
 //! ```
-//! use host::{Device, Event, Received, Window, RIGHT_WRITE};
+//! use host::{Device, Event, Reading, Received, Window, RIGHT_WRITE};
 //!
 //! let mut store = vec![0; 4096];
 //! let mut device = Device::new();
@@ -24,6 +24,9 @@
 //! let answer = device.receive(&mut store, 4, &frame)?;
 //! assert_eq!(answer, Received::Taken { total: 24, event: Event::None });
 //! assert_eq!(store[1024..1028], [0xDE, 0xAD, 0xBE, 0xEF]);
+//!
+//! device.tick(1)?;
+//! assert_eq!(device.reading(1)?, Reading::Steady(4.0));
 //! # Ok::<(), host::Error>(())
 //! ```
 //!
@@ -75,7 +78,7 @@ pub mod raw;
 mod rooms;
 mod words;
 
-pub use answer::{Closed, Error, Event, Fault, Offered, ReadRequest, Received};
+pub use answer::{Closed, Error, Event, Fault, Offered, ReadRequest, Reading, Received};
 pub use device::{crc32c, crc32c_join, crc32c_update, Device, Window, RIGHT_READ, RIGHT_WRITE};
 pub use message::{write_fpdu, Message};
 pub use rooms::Rooms;

@@ -1,7 +1,7 @@
 //! The C interface as `include/rnic.h` declares it; [`crate::Device`] is the safe way to it.
 
 /// How many words a device has: `RNIC_C_DEVICE_WORDS` of the header.
-pub const DEVICE_WORDS: usize = 933;
+pub const DEVICE_WORDS: usize = 945;
 
 /// A device, `struct rnic` of the header. Any words are one.
 #[derive(Clone, Copy, Debug, PartialEq, Eq)]
@@ -56,6 +56,8 @@ pub mod call {
     pub const LIVE_COUNT: u64 = 7;
     pub const LOWEST_FREE: u64 = 8;
     pub const RECEIVE: u64 = 9;
+    pub const TICK: u64 = 10;
+    pub const READING: u64 = 11;
 }
 
 /// The kinds of answers, which stand in an answer's first word.
@@ -72,6 +74,9 @@ pub mod kind {
     pub const TERMINATED: u64 = 9;
     pub const ENDED: u64 = 10;
     pub const KEPT: u64 = 11;
+    pub const QUIET: u64 = 12;
+    pub const STEADY: u64 = 13;
+    pub const FALLING: u64 = 14;
 }
 
 extern "C" {

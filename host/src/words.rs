@@ -1,6 +1,6 @@
 //! An answer's words, read as what the call made answers.
 
-use crate::answer::{Closed, Error, Event, Fault, Offered, ReadRequest, Received};
+use crate::answer::{Closed, Error, Event, Fault, Offered, ReadRequest, Reading, Received};
 use crate::raw::{kind, Words};
 
 /// Gives what a reader finds in the words, or the refusal or the words where it finds nothing.
@@ -60,6 +60,20 @@ pub(crate) fn read_request(words: &Words) -> Result<ReadRequest, Error> {
 pub(crate) fn counted(words: &Words) -> Result<u32, Error> {
     read(words, |words| match *words {
         [kind::COUNTED, count, 0, 0, 0, 0, 0, 0] => field(count),
+        _ => None,
+    })
+}
+
+/// Reads the answer of asking for a reading, whose floats are their bits.
+#[inline]
+pub(crate) fn reading(words: &Words) -> Result<Reading, Error> {
+    read(words, |words| match *words {
+        [kind::QUIET, 0, 0, 0, 0, 0, 0, 0] => Some(Reading::Quiet),
+        [kind::STEADY, level, 0, 0, 0, 0, 0, 0] => Some(Reading::Steady(f64::from_bits(level))),
+        [kind::FALLING, level, peak, 0, 0, 0, 0, 0] => Some(Reading::Falling {
+            level: f64::from_bits(level),
+            peak: f64::from_bits(peak),
+        }),
         _ => None,
     })
 }
@@ -145,7 +159,8 @@ mod tests {
     fn words_that_are_no_answer() {
         let large = 1 << 40;
         for words in [
-            [12, 0, 0, 0, 0, 0, 0, 0],
+            [15, 0, 0, 0, 0, 0, 0, 0],
+            [kind::QUIET, 0, 0, 0, 0, 0, 0, 0],
             [kind::KEPT, 0, 0, 0, 0, 0, 0, 0],
             [u64::MAX; 8],
             [kind::TAKEN, 20, 1, 0, 0, 0, 0, 0],
@@ -163,12 +178,33 @@ mod tests {
         assert_eq!(closed(&refused), Err(Error::Refused(9)));
     }
 
+    /// The same of a reading.
+    #[test]
+    fn words_that_are_no_reading() {
+        let eight = 8f64.to_bits();
+        for words in [
+            [15, 0, 0, 0, 0, 0, 0, 0],
+            [kind::QUIET, eight, 0, 0, 0, 0, 0, 0],
+            [kind::STEADY, eight, eight, 0, 0, 0, 0, 0],
+            [kind::FALLING, eight, eight, eight, 0, 0, 0, 0],
+            [kind::COUNTED, 8, 0, 0, 0, 0, 0, 0],
+        ] {
+            assert_eq!(reading(&words), Err(Error::Unexpected(words)));
+        }
+        let steady = [kind::STEADY, eight, 0, 0, 0, 0, 0, 0];
+        assert_eq!(reading(&steady), Ok(Reading::Steady(8.0)));
+        let falling = [kind::FALLING, eight, 20f64.to_bits(), 0, 0, 0, 0, 0];
+        let (level, peak) = (8.0, 20.0);
+        assert_eq!(reading(&falling), Ok(Reading::Falling { level, peak }));
+    }
+
     /// The same of an offer, which has no Wait.
     #[test]
     fn words_that_are_no_answer_of_an_offer() {
         let large = 1 << 40;
         for words in [
-            [12, 0, 0, 0, 0, 0, 0, 0],
+            [15, 0, 0, 0, 0, 0, 0, 0],
+            [kind::QUIET, 0, 0, 0, 0, 0, 0, 0],
             [u64::MAX; 8],
             [kind::WAIT, 20, 0, 0, 0, 0, 0, 0],
             [kind::KEPT, 1, 0, 0, 0, 0, 1, 0],

@@ -57,6 +57,8 @@ pub enum Command {
     Take(u64),
     Live(u64),
     Free(u64),
+    Tick(u64),
+    Reading(u64),
     Bytes {
         start: u64,
         length: u64,
@@ -174,6 +176,8 @@ fn device_command(words: &[&[u8]]) -> Option<Command> {
         [b"take", stream] => Command::Take(number(stream)?),
         [b"live", domain] => Command::Live(number(domain)?),
         [b"free", domain] => Command::Free(number(domain)?),
+        [b"tick", domain] => Command::Tick(number(domain)?),
+        [b"reading", domain] => Command::Reading(number(domain)?),
         _ => return None,
     })
 }

@@ -1,5 +1,6 @@
 //! Every call on the box but receive and offer.
 
+use crate::gauge::Reading;
 use crate::rdmap::ReadRequest;
 use crate::refusal::Refusal;
 use crate::state::{stream_domain, window_domain, Buffer, Condition, Device, Part, Stream, Window};
@@ -151,6 +152,19 @@ impl Device {
         let slots = self.slots(domain)?;
         let lowest = slots.iter().position(|window| !window.live);
         Ok(lowest.unwrap_or(WINDOWS_PER_DOMAIN))
+    }
+
+    /// Makes the count of a domain's placed bytes a sample of its gauge, and clears it.
+    pub fn tick(&mut self, domain: u64) -> Result<(), Refusal> {
+        let domain = index(domain, DOMAINS)?;
+        let sample = std::mem::take(&mut self.placed[domain]);
+        self.gauges[domain].take(sample);
+        Ok(())
+    }
+
+    /// Gives what a domain's gauge reads as.
+    pub fn reading(&self, domain: u64) -> Result<Reading, Refusal> {
+        Ok(self.gauges[index(domain, DOMAINS)?].reading())
     }
 
     /// Gives the sixteen windows of a domain.

@@ -3,7 +3,8 @@
 //! The wire forms (`crc`, `pieces`, `mpa`, `startup`, `ddp`, `rdmap`) know nothing of the state. Read `state` first, then
 //! `device` for the calls, with `sharing`, and `receive`, whose rules stand in `judge` and `target`; `offer` is receive on a
 //! stream that holds a partial FPDU. `script` runs the lines that `command` takes apart; `generate` writes random ones.
-//! `sender` writes messages, and knows nothing of the device; `capture` reads streams of another implementation.
+//! `sender` writes messages, and knows nothing of the device; `capture` reads streams of another implementation. `gauge` says
+//! how busy a domain is; `samples` runs one over a file of samples.
 
 pub mod bigendian;
 pub mod capture;
@@ -12,6 +13,7 @@ pub mod crc;
 pub mod ddp;
 pub mod device;
 pub mod fifo;
+pub mod gauge;
 pub mod generate;
 pub mod hex;
 mod judge;
@@ -21,6 +23,7 @@ pub mod pieces;
 pub mod rdmap;
 pub mod receive;
 pub mod refusal;
+pub mod samples;
 pub mod script;
 pub mod sender;
 mod sharing;

@@ -4,7 +4,7 @@ use crate::judge::Effect;
 use crate::mpa::{read_fpdu, Frame};
 use crate::rdmap::{self, Terminate};
 use crate::refusal::{Fault, Refusal};
-use crate::state::{Condition, Device, Stream, STREAMS};
+use crate::state::{stream_domain, Condition, Device, Stream, STREAMS};
 
 /// What receive answers.
 #[derive(Clone, Copy, Debug, PartialEq, Eq)]
@@ -82,6 +82,7 @@ impl Device {
         match effect {
             Effect::Write { place, payload } => {
                 put(store, place, payload);
+                self.count_placed(stream, payload);
                 Event::None
             }
             Effect::Send {
@@ -94,6 +95,7 @@ impl Device {
                 put(store, place, payload);
                 record.taken += payload.len() as u64;
                 record.sending = Some(opcode);
+                self.count_placed(stream, payload);
                 if last {
                     self.complete_send(stream, opcode, invalidate)
                 } else {
@@ -111,6 +113,12 @@ impl Device {
                 Event::Terminate(terminate)
             }
         }
+    }
+
+    /// Counts the bytes of a payload that was placed for the stream's domain; the count stops at its highest value.
+    fn count_placed(&mut self, stream: usize, payload: &[u8]) {
+        let placed = &mut self.placed[stream_domain(stream)];
+        *placed = placed.saturating_add(payload.len() as u32);
     }
 
     /// Completes the Send under way: its buffer is used up and its STag dies.

@@ -103,6 +103,8 @@ impl Interpreter {
             Command::Take(stream) => read_text(device.take_read(stream)?),
             Command::Live(domain) => format!("live {}", device.live(domain)?),
             Command::Free(domain) => format!("free {}", device.free(domain)?),
+            Command::Tick(domain) => done(device.tick(domain))?,
+            Command::Reading(domain) => device.reading(domain)?.to_string(),
             Command::Bytes { start, length } => self.show(start, length),
             Command::Fill { start, bytes } => self.fill(start, &bytes),
             Command::MessageWrite {

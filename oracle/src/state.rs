@@ -1,6 +1,7 @@
 //! What the box holds: streams, windows, buffers and parts, with nothing that changes them.
 
 use crate::fifo::Fifo;
+use crate::gauge::Gauge;
 use crate::mpa::MAX_FPDU;
 use crate::rdmap::ReadRequest;
 use crate::refusal::Fault;
@@ -75,13 +76,15 @@ pub struct Stream {
     pub held: Vec<u8>,
 }
 
-/// The whole box but for the lent store.
-#[derive(Clone, Debug, PartialEq, Eq)]
+/// The whole box but for the lent store; `placed` counts each domain's bytes since its last tick.
+#[derive(Clone, Debug, PartialEq)]
 pub struct Device {
     pub length: u64,
     pub parts: [Part; DOMAINS],
     pub streams: [Stream; STREAMS],
     pub windows: [Window; WINDOWS],
+    pub placed: [u32; DOMAINS],
+    pub gauges: [Gauge; DOMAINS],
 }
 
 impl Default for Device {
@@ -92,6 +95,8 @@ impl Default for Device {
             parts: [Part::default(); DOMAINS],
             streams: std::array::from_fn(|_| Stream::default()),
             windows: [Window::default(); WINDOWS],
+            placed: [0; DOMAINS],
+            gauges: [Gauge::default(); DOMAINS],
         }
     }
 }

@@ -66,6 +66,11 @@ pub fn refusals() -> Vec<String> {
     local.chain(faults).collect()
 }
 
+/// Gives every answer that reads a gauge, without its values.
+pub fn readings() -> [String; 3] {
+    ["quiet", "steady", "falling"].map(String::from)
+}
+
 /// Gives the words of an answer that are not values: a refusal is kept whole.
 fn answer_kind(answer: &str) -> String {
     if answer.starts_with("refused") {

@@ -174,6 +174,14 @@ fn the_longest_frames_are_reached() {
 }
 
 #[test]
+fn every_reading_is_reached() {
+    let nights: Vec<Vec<u8>> = (1..=200).map(|seed| night_script(seed, 500)).collect();
+    assert!(answered(&nights, |answer| answer == "quiet") > 100);
+    assert!(answered(&nights, |answer| answer.starts_with("steady ")) > 100);
+    assert!(answered(&nights, |answer| answer.starts_with("falling ")) > 100);
+}
+
+#[test]
 fn no_line_of_a_night_is_too_long() {
     for seed in 1..=200 {
         let script = night_script(seed, 500);

@@ -173,6 +173,35 @@ fn any_stream_holds(interpreter: &mut Interpreter, words: &[&str], answer: Strin
     }
 }
 
+/// Gives the domain that a tick names.
+fn ticked(words: &[&str], answer: &str) -> Option<usize> {
+    (words[0] == "tick" && answer == "done").then(|| words[1].parse().unwrap())
+}
+
+/// Counts what is placed for the next domain too.
+fn counts_for_another(interpreter: &mut Interpreter, words: &[&str], answer: String) -> String {
+    if let Some(domain) = taken_for(words, &answer) {
+        interpreter.device.placed[(domain + 1) % DOMAINS] += 1;
+    }
+    answer
+}
+
+/// Clears every domain's count at a tick.
+fn tick_clears_all(interpreter: &mut Interpreter, words: &[&str], answer: String) -> String {
+    if ticked(words, &answer).is_some() {
+        interpreter.device.placed = [0; DOMAINS];
+    }
+    answer
+}
+
+/// Ticks the next domain's gauge too.
+fn tick_moves_another(interpreter: &mut Interpreter, words: &[&str], answer: String) -> String {
+    if let Some(domain) = ticked(words, &answer) {
+        interpreter.device.gauges[(domain + 1) % DOMAINS].take(0);
+    }
+    answer
+}
+
 #[test]
 fn own_calls_are_the_same_and_the_others_differ() {
     let nights = [0, 1, 2].map(|others| lines(5, 2, others));
@@ -196,7 +225,15 @@ fn alone_or_among_others_the_answers_are_the_same() {
         assert_eq!(alone, own_answers(&lines(seed, 2, 1), sound));
         all.extend(alone);
     }
-    for kind in ["taken", "took", "held", "refused 16"] {
+    for kind in [
+        "taken",
+        "took",
+        "held",
+        "refused 16",
+        "quiet",
+        "steady",
+        "falling",
+    ] {
         assert!(all.iter().any(|answer| answer.starts_with(kind)), "{kind}");
     }
 }
@@ -212,6 +249,9 @@ fn flaws_are_found() {
         ("holds in another's room", holds_in_anothers_room),
         ("close empties another", close_empties_another),
         ("any stream holds", any_stream_holds),
+        ("counts for another", counts_for_another),
+        ("tick clears all", tick_clears_all),
+        ("tick moves another", tick_moves_another),
     ] {
         let found = found(flaw);
         println!("{name}: {found} of 12");

@@ -1,9 +1,9 @@
-//! The program `tally`: it fails where one refusal of all was given too seldom.
+//! The program `tally`: it fails where one refusal or one reading of all was given too seldom.
 
 use std::io::Write;
 use std::process::{Command, Stdio};
 
-use oracle::tally::refusals;
+use oracle::tally::{readings, refusals};
 
 /// Runs `tally 2` on some answers, and gives whether it succeeds and what it writes to standard error.
 fn tally(answers: &str) -> (bool, String) {
@@ -23,17 +23,18 @@ fn tally(answers: &str) -> (bool, String) {
 }
 
 #[test]
-fn each_refusal_is_asked_for() {
+fn each_refusal_and_each_reading_is_asked_for() {
     let refusals = refusals();
     let numbers = (1..=16).chain(19..=38);
     for number in numbers.map(|number| format!("refused {number}")) {
         let same = |kind: &&String| **kind == number || kind.starts_with(&format!("{number} "));
         assert!(refusals.iter().any(|kind| same(&kind)), "{number}");
     }
-    let all = refusals.join("\n") + "\n";
+    let kinds = [refusals, readings().to_vec()].concat();
+    let all = kinds.join("\n") + "\n";
     assert_eq!(tally(&(all.clone() + &all)), (true, String::new()));
-    for rare in &refusals {
-        let others: Vec<&str> = refusals
+    for rare in &kinds {
+        let others: Vec<&str> = kinds
             .iter()
             .filter(|kind| *kind != rare)
             .map(String::as_str)

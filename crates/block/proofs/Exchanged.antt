@@ -6,13 +6,14 @@ use mathlib.Core.Path.{_≡_, refl, ap}
 use native.Mathlib.Omega.{arith}
 use lib.ListN.{getD}
 use Rattle.rdmap.specs.Stream.{inPhase, withSends, withReads, withFraming}
-use Rattle.domain.specs.Domain.{withStream}
+use Rattle.meter.specs.Words.{meterOf}
+use Rattle.domain.specs.Domain.{withStream, withMeter}
 use Rattle.rnic.specs.Rnic.{withDomain}
-use Rattle.block.specs.Layout.{domainOffset, windowOffset, streamOffset, framingOffset, terminatesOffset, sendsOffset, readsOffset}
+use Rattle.block.specs.Layout.{domainOffset, windowOffset, streamOffset, meterOffset, framingOffset, terminatesOffset, sendsOffset, readsOffset}
 use Rattle.block.specs.Words.{lowerHalf, partIn}
 use Rattle.block.specs.Queue.{sendsIn, readsIn, terminatesIn}
 use Rattle.block.specs.Stream.{phaseIn, framingIn, loadedPhase, loadedFraming, loadedTerminates, loadedSends, loadedReads, loadedStream}
-use Rattle.block.specs.Device.{loadedLen, loadedPart, loadedWindow, loadedDomain, rnicAt}
+use Rattle.block.specs.Device.{loadedLen, loadedPart, loadedWindow, loadedMeter, loadedDomain, rnicAt}
 use Rattle.block.specs.Exchange.{withTerminates, withPart, withWindow}
 use Rattle.block.proofs.Lists.{listed-same, listed-set}
 use Rattle.block.proofs.Outside.{SameOutside, differ, window-kept, stream-kept, domain-kept}
@@ -70,35 +71,46 @@ module _ (w v : List ℕ) where
 
   module _ (d : ℕ) where
     pub part-alone : SameOutside w v (domainOffset d) 1 → loadedDomain v d ≡ withPart (loadedDomain w d) (loadedPart v d)
-    unfolding loadedDomain
+    unfolding loadedDomain loadedMeter
     part-alone same =
         let windows = listed-same 16 (loadedWindow w d) (loadedWindow v d) (λ i h. window-kept w v (domainOffset d) 1 same d i (inr (omega arith))) in
         let streams = listed-same 4 (loadedStream w d) (loadedStream v d) (λ j h. stream-kept w v (domainOffset d) 1 same d j (inr (omega arith))) in
-        λ i. record { part = loadedPart v d; windows = windows i; streams = streams i }
+        let meter = ap meterOf (same (meterOffset d) 3 (inr (omega arith))) in
+        λ i. record { part = loadedPart v d; windows = windows i; streams = streams i; meter = meter i }
 
     pub window-alone : (n : ℕ) → n < 16 → SameOutside w v (windowOffset d n) 3 → loadedDomain v d ≡ withWindow (loadedDomain w d) n (loadedWindow v d n)
-    unfolding loadedDomain loadedPart
+    unfolding loadedDomain loadedPart loadedMeter
     window-alone n h same =
         let own = ap partIn (same (domainOffset d) 1 (inl (omega arith))) in
         let windows = listed-set 16 n (loadedWindow w d) (loadedWindow v d) (loadedWindow v d n) refl (λ m k ne. window-kept w v (windowOffset d n) 3 same d m (differ m n ne (λ x. inl (omega arith)) (λ x. inr (omega arith)))) in
         let streams = listed-same 4 (loadedStream w d) (loadedStream v d) (λ j k. stream-kept w v (windowOffset d n) 3 same d j (inr (omega arith))) in
-        λ i. record { part = own i; windows = windows i; streams = streams i }
+        let meter = ap meterOf (same (meterOffset d) 3 (inr (omega arith))) in
+        λ i. record { part = own i; windows = windows i; streams = streams i; meter = meter i }
 
     pub stream-alone : (n : ℕ) → n < 4 → SameOutside w v (streamOffset d n) 46 → loadedDomain v d ≡ withStream (loadedDomain w d) n (loadedStream v d n)
-    unfolding loadedDomain loadedPart
+    unfolding loadedDomain loadedPart loadedMeter
     stream-alone n h same =
         let own = ap partIn (same (domainOffset d) 1 (inl (omega arith))) in
         let windows = listed-same 16 (loadedWindow w d) (loadedWindow v d) (λ i k. window-kept w v (streamOffset d n) 46 same d i (inl (omega arith))) in
         let streams = listed-set 4 n (loadedStream w d) (loadedStream v d) (loadedStream v d n) refl (λ m k ne. stream-kept w v (streamOffset d n) 46 same d m (differ m n ne (λ x. inl (omega arith)) (λ x. inr (omega arith)))) in
-        λ i. record { part = own i; windows = windows i; streams = streams i }
+        let meter = ap meterOf (same (meterOffset d) 3 (inr (omega arith))) in
+        λ i. record { part = own i; windows = windows i; streams = streams i; meter = meter i }
+
+    pub meter-alone : SameOutside w v (meterOffset d) 3 → loadedDomain v d ≡ withMeter (loadedDomain w d) (loadedMeter v d)
+    unfolding loadedDomain loadedPart
+    meter-alone same =
+        let own = ap partIn (same (domainOffset d) 1 (inl (omega arith))) in
+        let windows = listed-same 16 (loadedWindow w d) (loadedWindow v d) (λ i h. window-kept w v (meterOffset d) 3 same d i (inl (omega arith))) in
+        let streams = listed-same 4 (loadedStream w d) (loadedStream v d) (λ j h. stream-kept w v (meterOffset d) 3 same d j (inl (omega arith))) in
+        λ i. record { part = own i; windows = windows i; streams = streams i; meter = loadedMeter v d }
 
   -- ---- in the device
 
-  pub domain-alone : (n : ℕ) → n < 4 → SameOutside w v (domainOffset n) 233 → rnicAt v ≡ withDomain (rnicAt w) n (loadedDomain v n)
+  pub domain-alone : (n : ℕ) → n < 4 → SameOutside w v (domainOffset n) 236 → rnicAt v ≡ withDomain (rnicAt w) n (loadedDomain v n)
   unfolding rnicAt loadedLen
   domain-alone n h same =
       let len = ap (λ (g : List ℕ). lowerHalf (getD g 0 0)) (same 0 1 (inl (omega arith))) in
-      let domains = listed-set 4 n (loadedDomain w) (loadedDomain v) (loadedDomain v n) refl (λ m k ne. domain-kept w v (domainOffset n) 233 same m (differ m n ne (λ x. inl (omega arith)) (λ x. inr (omega arith)))) in
+      let domains = listed-set 4 n (loadedDomain w) (loadedDomain v) (loadedDomain v n) refl (λ m k ne. domain-kept w v (domainOffset n) 236 same m (differ m n ne (λ x. inl (omega arith)) (λ x. inr (omega arith)))) in
       λ i. record { len = len i; domains = domains i }
 
   pub len-alone : SameOutside w v 0 1 → rnicAt v ≡ record { len = loadedLen v; domains = rnicAt w .domains }

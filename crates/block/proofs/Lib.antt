@@ -7,3 +7,4 @@ pub mod Stored
 pub mod Streams
 pub mod Zeros
 pub mod Opened
+pub mod Counted

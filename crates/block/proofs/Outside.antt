@@ -9,11 +9,12 @@ use lib.Dec.{ltb}
 use lib.ListN.{length}
 use borrow.Author.Tests.{ltb-true, ltb-false}
 use Rattle.wire.specs.Wire.{part, put}
-use Rattle.block.specs.Layout.{domainOffset, windowOffset, streamOffset, framingOffset, terminatesOffset, sendsOffset, readsOffset}
+use Rattle.block.specs.Layout.{domainOffset, windowOffset, streamOffset, meterOffset, framingOffset, terminatesOffset, sendsOffset, readsOffset}
+use Rattle.meter.specs.Words.{meterOf}
 use Rattle.block.specs.Words.{partIn, windowIn}
 use Rattle.block.specs.Queue.{sendsIn, readsIn, terminatesIn}
 use Rattle.block.specs.Stream.{phaseIn, framingIn, loadedPhase, loadedFraming, loadedTerminates, loadedSends, loadedReads, loadedStream}
-use Rattle.block.specs.Device.{loadedPart, loadedWindow, loadedDomain}
+use Rattle.block.specs.Device.{loadedPart, loadedWindow, loadedMeter, loadedDomain}
 use Rattle.block.proofs.Lists.{part-before, part-after, listed-same}
 
 -- the m words from b lie before the k words from a, or after them
@@ -61,14 +62,19 @@ module _ (w v : List ℕ) (a k : ℕ) (same : SameOutside w v a k) where
       λ i. record { phase = phase i; framing = framing i; sends = sends i; reads = reads i; terminates = terminates i }
 
   -- a domain's windows and streams
-  part-kept : (d : ℕ) → Apart a k (domainOffset d) 233 → loadedPart v d ≡ loadedPart w d
+  part-kept : (d : ℕ) → Apart a k (domainOffset d) 236 → loadedPart v d ≡ loadedPart w d
   unfolding loadedPart
-  part-kept d apart = kept partIn (domainOffset d) 233 (domainOffset d) 1 (omega arith) (omega arith) apart
+  part-kept d apart = kept partIn (domainOffset d) 236 (domainOffset d) 1 (omega arith) (omega arith) apart
 
-  pub domain-kept : (d : ℕ) → Apart a k (domainOffset d) 233 → loadedDomain v d ≡ loadedDomain w d
+  meter-kept : (d : ℕ) → Apart a k (domainOffset d) 236 → loadedMeter v d ≡ loadedMeter w d
+  unfolding loadedMeter
+  meter-kept d apart = kept meterOf (domainOffset d) 236 (meterOffset d) 3 (omega arith) (omega arith) apart
+
+  pub domain-kept : (d : ℕ) → Apart a k (domainOffset d) 236 → loadedDomain v d ≡ loadedDomain w d
   unfolding loadedDomain
   domain-kept d apart =
       let own = part-kept d apart in
       let windows = listed-same 16 (loadedWindow w d) (loadedWindow v d) (λ i h. window-kept d i (⊎-elim (λ x. inl (omega arith)) (λ x. inr (omega arith)) apart)) in
       let streams = listed-same 4 (loadedStream w d) (loadedStream v d) (λ j h. stream-kept d j (⊎-elim (λ x. inl (omega arith)) (λ x. inr (omega arith)) apart)) in
-      λ i. record { part = own i; windows = windows i; streams = streams i }
+      let meter = meter-kept d apart in
+      λ i. record { part = own i; windows = windows i; streams = streams i; meter = meter i }

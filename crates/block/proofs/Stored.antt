@@ -3,7 +3,7 @@ use Prim.Native.Nat.{ℕ, _+_, _<_, _≤_}
 use mathlib.Core.List.{List, [], _∷_}
 use mathlib.Core.Path.{_≡_, refl, sym, ap, _∙_}
 use native.Mathlib.Omega.{arith}
-use lib.ListN.{length}
+use lib.ListN.{length, getD}
 use Rattle.wire.specs.Wire.{part, put}
 use Rattle.memory.specs.Window.{noWindow, windowAt}
 use Rattle.memory.specs.declared.part.Part.{Part}
@@ -15,18 +15,20 @@ use Rattle.rdmap.specs.declared.read.Reads.{Reads}
 use Rattle.rdmap.specs.declared.sends.Sends.{Sends}
 use Rattle.rdmap.specs.declared.stream.Stream.{Stream}
 use Rattle.rdmap.specs.declared.terminates.Terminates.{Terminates}
-use Rattle.domain.specs.Domain.{noStream, streamAt, withStream}
+use Rattle.meter.specs.Words.{meterWords, countedWord}
+use Rattle.meter.specs.declared.Meter.{Meter}
+use Rattle.domain.specs.Domain.{noStream, streamAt, withStream, withMeter}
 use Rattle.domain.specs.declared.Domain.{Domain}
 use Rattle.rnic.specs.Rnic.{noDomain, domainAt, withDomain}
-use Rattle.block.specs.Layout.{blockWords, domainOffset, windowOffset, streamOffset, framingOffset, terminatesOffset, sendsOffset, readsOffset}
+use Rattle.block.specs.Layout.{blockWords, domainOffset, windowOffset, streamOffset, meterOffset, framingOffset, terminatesOffset, sendsOffset, readsOffset}
 use Rattle.block.specs.Words.{partWords, windowWords}
 use Rattle.block.specs.Queue.{sendsWords, readsWords, terminatesWords}
 use Rattle.block.specs.Stream.{phaseWords, framingWords, loadedPhase, loadedFraming, loadedTerminates, loadedSends, loadedReads, loadedStream, storedPhase, storedFraming, storedTerminates, storedSends, storedReads, storedStream, streamWords}
-use Rattle.block.specs.Device.{loadedLen, loadedPart, loadedWindow, loadedDomain, rnicAt, storedLen, storedPart, storedWindow}
+use Rattle.block.specs.Device.{loadedLen, loadedPart, loadedWindow, loadedMeter, loadedDomain, rnicAt, storedLen, storedPart, storedWindow, storedMeter, storedCount}
 use Rattle.block.specs.Exchange.{withTerminates, withPart, withWindow, streamOf, withStreamOf}
 use Rattle.block.proofs.Lists.{listed-at}
 use Rattle.block.proofs.Outside.{SameOutside, put-outside, wider}
-use Rattle.block.proofs.Exchanged.{phase-alone, framing-alone, terminates-alone, sends-alone, reads-alone, part-alone, window-alone, stream-alone, domain-alone, len-alone}
+use Rattle.block.proofs.Exchanged.{phase-alone, framing-alone, terminates-alone, sends-alone, reads-alone, part-alone, window-alone, stream-alone, meter-alone, domain-alone, len-alone}
 
 -- ---- what is loaded is what the device has
 
@@ -51,6 +53,10 @@ module _ (w : List ℕ) (d : ℕ) (hd : d < 4) where
   unfolding loadedDomain
   stream-at j hj = ap (λ (x : Domain). streamAt x j) domain-at ∙ listed-at 4 j (loadedStream w d) noStream hj
 
+  pub meter-at : domainAt (rnicAt w) d .meter ≡ loadedMeter w d
+  unfolding loadedDomain
+  meter-at = ap (λ (x : Domain). x .meter) domain-at
+
   -- each group of a stream
   pub groups-at : (j : ℕ) → j < 4 → streamOf (rnicAt w) d j ≡ record { phase = loadedPhase w d j; framing = loadedFraming w d j; sends = loadedSends w d j; reads = loadedReads w d j; terminates = loadedTerminates w d j }
   unfolding loadedStream
@@ -69,9 +75,9 @@ len-changed w v n is e =
 
 module _ (w v : List ℕ) (d : ℕ) (hd : d < 4) (long : blockWords ≤ length w) where
   -- blocks that agree outside some words of a domain
-  in-domain : (a k : ℕ) → domainOffset d ≤ a → a + k ≤ domainOffset d + 233 → SameOutside w v a k → (f : Domain → Domain) → loadedDomain v d ≡ f (loadedDomain w d) → rnicAt v ≡ withDomain (rnicAt w) d (f (domainAt (rnicAt w) d))
+  in-domain : (a k : ℕ) → domainOffset d ≤ a → a + k ≤ domainOffset d + 236 → SameOutside w v a k → (f : Domain → Domain) → loadedDomain v d ≡ f (loadedDomain w d) → rnicAt v ≡ withDomain (rnicAt w) d (f (domainAt (rnicAt w) d))
   in-domain a k h h′ same f e =
-      domain-alone w v d hd (wider w v a k (domainOffset d) 233 h h′ same)
+      domain-alone w v d hd (wider w v a k (domainOffset d) 236 h h′ same)
       ∙ ap (λ (x : Domain). withDomain (rnicAt w) d x) (e ∙ ap f (sym (domain-at w d hd)))
 
   pub part-changed : (p : Part) → v ≡ storedPart w d p → loadedPart v d ≡ p → rnicAt v ≡ withDomain (rnicAt w) d (withPart (domainAt (rnicAt w) d) p)
@@ -85,6 +91,21 @@ module _ (w v : List ℕ) (d : ℕ) (hd : d < 4) (long : blockWords ≤ length w
       let same = outside w v (windowOffset d i) (windowWords x) (omega arith) is in
       in-domain (windowOffset d i) 3 (omega arith) (omega arith) same (λ b. withWindow b i x)
       (window-alone w v d i hi same ∙ ap (λ (y : Window). withWindow (loadedDomain w d) i y) e)
+
+  -- the meter, stored whole, and with more bytes counted
+  pub meter-changed : (m : Meter) → SameOutside w v (meterOffset d) 3 → loadedMeter v d ≡ m → rnicAt v ≡ withDomain (rnicAt w) d (withMeter (domainAt (rnicAt w) d) m)
+  meter-changed m same e =
+      in-domain (meterOffset d) 3 (omega arith) (omega arith) same (λ x. withMeter x m)
+      (meter-alone w v d same ∙ ap (λ (y : Meter). withMeter (loadedDomain w d) y) e)
+
+  pub ticked-changed : (m : Meter) → v ≡ storedMeter w d m → loadedMeter v d ≡ m → rnicAt v ≡ withDomain (rnicAt w) d (withMeter (domainAt (rnicAt w) d) m)
+  unfolding meterWords
+  ticked-changed m is e = meter-changed m (outside w v (meterOffset d) (meterWords m) (omega arith) is) e
+
+  pub count-changed : (m : Meter) (placed : ℕ) → v ≡ storedCount w d placed → loadedMeter v d ≡ m → rnicAt v ≡ withDomain (rnicAt w) d (withMeter (domainAt (rnicAt w) d) m)
+  count-changed m placed is e =
+      let same = outside w v (meterOffset d) (countedWord (getD w (meterOffset d) 0) placed ∷ []) (omega arith) is in
+      meter-changed m (wider w v (meterOffset d) 1 (meterOffset d) 3 (omega arith) (omega arith) same) e
 
   module _ (j : ℕ) (hj : j < 4) where
     -- blocks that agree outside some words of a stream

@@ -1,6 +1,7 @@
 -- A block of zeros holds the device that a refused opening gives: every group of zeros is the empty one.
 use Prim.Native.Nat.{ℕ, _+_, _-_, _<_, _≤_}
-use mathlib.Core.List.{List, _++_, append-assoc}
+use mathlib.Core.List.{List, [], _∷_, _++_, append-assoc}
+use mathlib.Core.Bool.{false}
 use mathlib.Core.Path.{_≡_, sym, ap, _∙_}
 use native.Mathlib.Omega.{arith}
 use lib.ListN.{length, getD, take, drop, replicate, length-replicate, replicate-append-replicate}
@@ -9,13 +10,16 @@ use Rattle.wire.specs.Wire.{part, put}
 use Rattle.wire.proofs.Laws.{put-start}
 use Rattle.memory.specs.Window.{noWindow}
 use Rattle.rdmap.specs.Stream.{closedStream}
+use Rattle.meter.specs.Gauge.{newMeter}
+use Rattle.meter.proofs.Cases.{zero}
+use Rattle.meter.specs.Words.{levelAt, meterAt, meterOf}
 use Rattle.domain.specs.Domain.{newDomain}
 use Rattle.rnic.specs.Rnic.{emptyRnic}
-use Rattle.block.specs.Layout.{domainOffset, windowOffset, streamOffset, framingOffset, terminatesOffset, sendsOffset, readsOffset}
+use Rattle.block.specs.Layout.{domainOffset, windowOffset, streamOffset, meterOffset, framingOffset, terminatesOffset, sendsOffset, readsOffset}
 use Rattle.block.specs.Words.{lowerHalf, partIn, windowIn}
 use Rattle.block.specs.Queue.{sendsIn, readsIn, terminatesIn}
 use Rattle.block.specs.Stream.{phaseIn, framingIn, loadedPhase, loadedFraming, loadedTerminates, loadedSends, loadedReads, loadedStream}
-use Rattle.block.specs.Device.{loadedLen, loadedPart, loadedWindow, loadedDomain, rnicAt}
+use Rattle.block.specs.Device.{loadedLen, loadedPart, loadedWindow, loadedMeter, loadedDomain, rnicAt}
 use Rattle.block.proofs.Lists.{listed-same}
 
 -- a part of n zeros before other words
@@ -38,7 +42,12 @@ pub zeros-put : (w v : List ℕ) (n : ℕ) → v ≡ put w 0 (replicate n 0) →
 zeros-put w v n is b m h =
     ap (λ (x : List ℕ). part x b m) (is ∙ put-start w (replicate n 0)) ∙ part-zeros (drop (length (replicate n 0)) w) n b m h
 
-module _ (v : List ℕ) (zeros : (b m : ℕ) → b + m ≤ 933 → part v b m ≡ replicate m 0) where
+-- a meter of zeros is a new one
+meter-zeros : meterOf (0 ∷ 0 ∷ 0 ∷ []) ≡ newMeter
+unfolding meterAt levelAt
+meter-zeros i = record { count = 0; ticked = false; gauge = record { level = zero i; peak = zero i } }
+
+module _ (v : List ℕ) (zeros : (b m : ℕ) → b + m ≤ 945 → part v b m ≡ replicate m 0) where
   stream-zeros : (d j : ℕ) → d < 4 → j < 4 → loadedStream v d j ≡ closedStream
   unfolding loadedStream loadedPhase loadedFraming loadedTerminates loadedSends loadedReads
   stream-zeros d j hd hj =
@@ -54,12 +63,13 @@ module _ (v : List ℕ) (zeros : (b m : ℕ) → b + m ≤ 933 → part v b m �
   window-zeros d i hd hi = ap windowIn (zeros (windowOffset d i) 3 (omega arith))
 
   domain-zeros : (d : ℕ) → d < 4 → loadedDomain v d ≡ newDomain 0 0
-  unfolding loadedDomain loadedPart
+  unfolding loadedDomain loadedPart loadedMeter
   domain-zeros d hd =
       let own = ap partIn (zeros (domainOffset d) 1 (omega arith)) in
       let windows = listed-same 16 (λ i. noWindow) (loadedWindow v d) (λ i hi. window-zeros d i hd hi) in
       let streams = listed-same 4 (λ j. closedStream) (loadedStream v d) (λ j hj. stream-zeros d j hd hj) in
-      λ i. record { part = own i; windows = windows i; streams = streams i }
+      let meter = ap meterOf (zeros (meterOffset d) 3 (omega arith)) ∙ meter-zeros in
+      λ i. record { part = own i; windows = windows i; streams = streams i; meter = meter i }
 
   pub rnic-zeros : rnicAt v ≡ emptyRnic
   unfolding rnicAt loadedLen

@@ -5,9 +5,11 @@ use lib.ListN.{getD}
 use Rattle.wire.specs.Wire.{part, put}
 use Rattle.memory.specs.declared.part.Part.{Part}
 use Rattle.memory.specs.declared.window.Window.{Window}
+use Rattle.meter.specs.Words.{meterWords, meterOf, countedWord}
+use Rattle.meter.specs.declared.Meter.{Meter}
 use Rattle.domain.specs.declared.Domain.{Domain}
 use Rattle.rnic.specs.declared.Rnic.{Rnic}
-use Rattle.block.specs.Layout.{domainOffset, windowOffset}
+use Rattle.block.specs.Layout.{domainOffset, windowOffset, meterOffset}
 use Rattle.block.specs.Words.{sequence, lowerHalf, partIn, partWords, windowIn, windowWords}
 use Rattle.block.specs.Stream.{loadedStream}
 
@@ -34,10 +36,20 @@ storedWindow w d i window = put w (windowOffset d i) (windowWords window)
 abbrev pub loadedWindows : List ℕ → ℕ → List Window
 loadedWindows w d = sequence 16 (loadedWindow w d)
 
+-- a domain's meter, and what is stored of it: all of it, or its first word with more bytes counted
+unfoldable pub loadedMeter : List ℕ → ℕ → Meter
+loadedMeter w d = meterOf (part w (meterOffset d) 3)
+
+abbrev pub storedMeter : List ℕ → ℕ → Meter → List ℕ
+storedMeter w d m = put w (meterOffset d) (meterWords m)
+
+abbrev pub storedCount : List ℕ → ℕ → ℕ → List ℕ
+storedCount w d placed = put w (meterOffset d) (countedWord (getD w (meterOffset d) 0) placed ∷ [])
+
 -- a domain, and the device
 unfoldable pub loadedDomain : List ℕ → ℕ → Domain
 loadedDomain w d =
-    record { part = loadedPart w d; windows = loadedWindows w d; streams = sequence 4 (loadedStream w d) }
+    record { part = loadedPart w d; windows = loadedWindows w d; streams = sequence 4 (loadedStream w d); meter = loadedMeter w d }
 
 unfoldable pub rnicAt : List ℕ → Rnic
 rnicAt w = record { len = loadedLen w; domains = sequence 4 (loadedDomain w) }

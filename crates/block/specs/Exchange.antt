@@ -17,7 +17,7 @@ withTerminates s terminates =
 
 -- of a domain
 abbrev pub withPart : Domain → Part → Domain
-withPart d p = record { part = p; windows = d .windows; streams = d .streams }
+withPart d p = record { part = p; windows = d .windows; streams = d .streams; meter = d .meter }
 
 abbrev pub withWindow : Domain → ℕ → Window → Domain
 withWindow d i x = withWindows d (set (d .windows) i x)

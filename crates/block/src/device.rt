@@ -18,14 +18,14 @@ use crate::pack::upper;
 use memory::part::Part;
 
 // Clears the block: the device has length 0, no window is live and no stream is open.
-pub fn clear_block(words: &mut [u64; 933])
+pub fn clear_block(words: &mut [u64; 945])
     ensures { λ _. ⌜ rnicAt (now (words .exit)) ≡ emptyRnic ⌝ }
 {
     clear(words, 0, BLOCK_WORDS);
 }
 
 // Loads the length of the store.
-pub fn load_len(words: &[u64; 933]) -> u32
+pub fn load_len(words: &[u64; 945]) -> u32
     ensures { λ r. ⌜ r ≡ loadedLen (now (words .entry)) ⌝ }
 {
     let all = &words[..];
@@ -33,7 +33,7 @@ pub fn load_len(words: &[u64; 933]) -> u32
 }
 
 // Stores the length of the store.
-pub fn store_len(words: &mut [u64; 933], len: u32)
+pub fn store_len(words: &mut [u64; 945], len: u32)
     ensures { λ _. ⌜ (now (words .exit) ≡ storedLen (now (words .entry)) len) × (loadedLen (now (words .exit)) ≡ len) × (length (now (words .entry)) ≡ blockWords) ⌝ }
 {
     store_word(words, 0, len as u64);
@@ -57,7 +57,7 @@ fn encode(p: Part) -> u64
 }
 
 // Loads the part of a domain.
-pub fn load_part(words: &[u64; 933], domain: usize) -> Part
+pub fn load_part(words: &[u64; 945], domain: usize) -> Part
     ensures { λ r. ⌜ r ≡ loadedPart (now (words .entry)) domain ⌝ }
 {
     let all = &words[..];
@@ -66,7 +66,7 @@ pub fn load_part(words: &[u64; 933], domain: usize) -> Part
 }
 
 // Stores the part of a domain.
-pub fn store_part(words: &mut [u64; 933], domain: usize, p: Part)
+pub fn store_part(words: &mut [u64; 945], domain: usize, p: Part)
     ensures { λ _. ⌜ (now (words .exit) ≡ storedPart (now (words .entry)) domain p) × (loadedPart (now (words .exit)) domain ≡ p) × (length (now (words .entry)) ≡ blockWords) ⌝ }
 {
     let at = domain_offset(domain);
@@ -74,7 +74,7 @@ pub fn store_part(words: &mut [u64; 933], domain: usize, p: Part)
 }
 
 // Stores a device that was just opened: its length and four parts, all windows dead and all streams closed.
-pub fn store_opened(words: &mut [u64; 933], len: u32, p0: Part, p1: Part, p2: Part, p3: Part)
+pub fn store_opened(words: &mut [u64; 945], len: u32, p0: Part, p1: Part, p2: Part, p3: Part)
     ensures { λ _. ⌜ rnicAt (now (words .exit)) ≡ rnicOf len p0 p1 p2 p3 ⌝ }
 {
     clear_block(words);

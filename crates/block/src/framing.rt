@@ -34,7 +34,7 @@ fn encode(f: Framing) -> u64
 }
 
 // Loads the framing of the stream of a domain's slot.
-pub fn load_framing(words: &[u64; 933], domain: usize, slot: usize) -> Framing
+pub fn load_framing(words: &[u64; 945], domain: usize, slot: usize) -> Framing
     ensures { λ r. ⌜ r ≡ loadedFraming (now (words .entry)) domain slot ⌝ }
 {
     let all = &words[..];
@@ -43,7 +43,7 @@ pub fn load_framing(words: &[u64; 933], domain: usize, slot: usize) -> Framing
 }
 
 // Stores the framing of the stream of a domain's slot.
-pub fn store_framing(words: &mut [u64; 933], domain: usize, slot: usize, f: Framing)
+pub fn store_framing(words: &mut [u64; 945], domain: usize, slot: usize, f: Framing)
     ensures { λ _. ⌜ (now (words .exit) ≡ storedFraming (now (words .entry)) domain slot f) × (loadedFraming (now (words .exit)) domain slot ≡ f) × (length (now (words .entry)) ≡ blockWords) ⌝ }
 {
     let at = stream_offset(domain, slot) + FRAMING;

@@ -1,4 +1,4 @@
-// The device that a host holds as a block of 933 words, `&[u64; 933]`. Each group of its records stands at
+// The device that a host holds as a block of 945 words, `&[u64; 945]`. Each group of its records stands at
 // a constant offset: a function loads a group by value or stores one, and no function takes a reference
 // to a struct. Any words hold a device, since each number is taken at its field's width, and any two
 // numbers name a domain and a slot of it: their remainders do.
@@ -10,6 +10,7 @@ mod copy;
 pub mod device;
 pub mod framing;
 pub mod layout;
+pub mod meters;
 mod pack;
 pub mod phase;
 pub mod reads;

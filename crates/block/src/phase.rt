@@ -43,7 +43,7 @@ fn encode(p: Phase) -> u64
 }
 
 // Loads the phase of the stream of a domain's slot.
-pub fn load_phase(words: &[u64; 933], domain: usize, slot: usize) -> Phase
+pub fn load_phase(words: &[u64; 945], domain: usize, slot: usize) -> Phase
     ensures { λ r. ⌜ r ≡ loadedPhase (now (words .entry)) domain slot ⌝ }
 {
     let all = &words[..];
@@ -52,7 +52,7 @@ pub fn load_phase(words: &[u64; 933], domain: usize, slot: usize) -> Phase
 }
 
 // Stores the phase of the stream of a domain's slot.
-pub fn store_phase(words: &mut [u64; 933], domain: usize, slot: usize, p: Phase)
+pub fn store_phase(words: &mut [u64; 945], domain: usize, slot: usize, p: Phase)
     ensures { λ _. ⌜ (now (words .exit) ≡ storedPhase (now (words .entry)) domain slot p) × (loadedPhase (now (words .exit)) domain slot ≡ p) × (length (now (words .entry)) ≡ blockWords) ⌝ }
 {
     let at = stream_offset(domain, slot);

@@ -117,7 +117,7 @@ fn four_words(a: ReadRequest, b: ReadRequest, c: ReadRequest, d: ReadRequest) ->
 }
 
 // Loads the reads of the stream of a domain's slot.
-pub fn load_reads(words: &[u64; 933], domain: usize, slot: usize) -> Reads
+pub fn load_reads(words: &[u64; 945], domain: usize, slot: usize) -> Reads
     ensures { λ r. ⌜ r ≡ loadedReads (now (words .entry)) domain slot ⌝ }
 {
     let all = &words[..];
@@ -127,7 +127,7 @@ pub fn load_reads(words: &[u64; 933], domain: usize, slot: usize) -> Reads
 }
 
 // Loads the tally of the reads of the stream of a domain's slot.
-pub fn load_tally(words: &[u64; 933], domain: usize, slot: usize) -> Tally
+pub fn load_tally(words: &[u64; 945], domain: usize, slot: usize) -> Tally
     ensures { λ r. ⌜ r ≡ tallyOf (loadedReads (now (words .entry)) domain slot) ⌝ }
 {
     let all = &words[..];
@@ -137,7 +137,7 @@ pub fn load_tally(words: &[u64; 933], domain: usize, slot: usize) -> Tally
 }
 
 // Stores the reads of the stream of a domain's slot.
-pub fn store_reads(words: &mut [u64; 933], domain: usize, slot: usize, r: Reads)
+pub fn store_reads(words: &mut [u64; 945], domain: usize, slot: usize, r: Reads)
     ensures { λ _. ⌜ (now (words .exit) ≡ storedReads (now (words .entry)) domain slot r) × (loadedReads (now (words .exit)) domain slot ≡ r) × (length (now (words .entry)) ≡ blockWords) ⌝ }
 {
     let at = stream_offset(domain, slot) + READS;

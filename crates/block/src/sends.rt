@@ -111,7 +111,7 @@ fn encode(s: Sends) -> [u64; 10]
 }
 
 // Loads the sends of the stream of a domain's slot.
-pub fn load_sends(words: &[u64; 933], domain: usize, slot: usize) -> Sends
+pub fn load_sends(words: &[u64; 945], domain: usize, slot: usize) -> Sends
     ensures { λ r. ⌜ r ≡ loadedSends (now (words .entry)) domain slot ⌝ }
 {
     let all = &words[..];
@@ -121,7 +121,7 @@ pub fn load_sends(words: &[u64; 933], domain: usize, slot: usize) -> Sends
 }
 
 // Loads the head of the sends of the stream of a domain's slot.
-pub fn load_head(words: &[u64; 933], domain: usize, slot: usize) -> Head
+pub fn load_head(words: &[u64; 945], domain: usize, slot: usize) -> Head
     ensures { λ r. ⌜ r ≡ headOf (loadedSends (now (words .entry)) domain slot) ⌝ }
 {
     let all = &words[..];
@@ -131,7 +131,7 @@ pub fn load_head(words: &[u64; 933], domain: usize, slot: usize) -> Head
 }
 
 // Stores the sends of the stream of a domain's slot.
-pub fn store_sends(words: &mut [u64; 933], domain: usize, slot: usize, s: Sends)
+pub fn store_sends(words: &mut [u64; 945], domain: usize, slot: usize, s: Sends)
     ensures { λ _. ⌜ (now (words .exit) ≡ storedSends (now (words .entry)) domain slot s) × (loadedSends (now (words .exit)) domain slot ≡ s) × (length (now (words .entry)) ≡ blockWords) ⌝ }
 {
     let group = encode(s);

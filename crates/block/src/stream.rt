@@ -11,7 +11,7 @@ use crate::terminates::store_terminates;
 use rdmap::stream::Stream;
 
 // Stores the stream of a domain's slot.
-pub fn store_stream(words: &mut [u64; 933], domain: usize, slot: usize, s: Stream)
+pub fn store_stream(words: &mut [u64; 945], domain: usize, slot: usize, s: Stream)
     ensures { λ _. ⌜ (now (words .exit) ≡ storedStream (now (words .entry)) domain slot s) × (loadedStream (now (words .exit)) domain slot ≡ s) × (length (now (words .entry)) ≡ blockWords) ⌝ }
 {
     store_phase(words, domain, slot, s.phase);

@@ -26,7 +26,7 @@ fn encode(t: Terminates) -> u64
 }
 
 // Loads the terminates of the stream of a domain's slot.
-pub fn load_terminates(words: &[u64; 933], domain: usize, slot: usize) -> Terminates
+pub fn load_terminates(words: &[u64; 945], domain: usize, slot: usize) -> Terminates
     ensures { λ r. ⌜ r ≡ loadedTerminates (now (words .entry)) domain slot ⌝ }
 {
     let all = &words[..];
@@ -35,7 +35,7 @@ pub fn load_terminates(words: &[u64; 933], domain: usize, slot: usize) -> Termin
 }
 
 // Stores the terminates of the stream of a domain's slot.
-pub fn store_terminates(words: &mut [u64; 933], domain: usize, slot: usize, t: Terminates)
+pub fn store_terminates(words: &mut [u64; 945], domain: usize, slot: usize, t: Terminates)
     ensures { λ _. ⌜ (now (words .exit) ≡ storedTerminates (now (words .entry)) domain slot t) × (loadedTerminates (now (words .exit)) domain slot ≡ t) × (length (now (words .entry)) ≡ blockWords) ⌝ }
 {
     let at = stream_offset(domain, slot) + TERMINATES;

@@ -51,7 +51,7 @@ fn encode(w: Window) -> [u64; 3]
 }
 
 // Loads the window of a domain's slot.
-pub fn load_window(words: &[u64; 933], domain: usize, slot: usize) -> Window
+pub fn load_window(words: &[u64; 945], domain: usize, slot: usize) -> Window
     ensures { λ r. ⌜ r ≡ loadedWindow (now (words .entry)) domain slot ⌝ }
 {
     let all = &words[..];
@@ -61,7 +61,7 @@ pub fn load_window(words: &[u64; 933], domain: usize, slot: usize) -> Window
 }
 
 // Loads whether the window of a domain's slot is live.
-pub fn load_live(words: &[u64; 933], domain: usize, slot: usize) -> bool
+pub fn load_live(words: &[u64; 945], domain: usize, slot: usize) -> bool
     ensures { λ r. ⌜ r ≡ loadedWindow (now (words .entry)) domain slot .live ⌝ }
 {
     let all = &words[..];
@@ -71,7 +71,7 @@ pub fn load_live(words: &[u64; 933], domain: usize, slot: usize) -> bool
 }
 
 // Stores the window of a domain's slot.
-pub fn store_window(words: &mut [u64; 933], domain: usize, slot: usize, w: Window)
+pub fn store_window(words: &mut [u64; 945], domain: usize, slot: usize, w: Window)
     ensures { λ _. ⌜ (now (words .exit) ≡ storedWindow (now (words .entry)) domain slot w) × (loadedWindow (now (words .exit)) domain slot ≡ w) × (length (now (words .entry)) ≡ blockWords) ⌝ }
 {
     let group = encode(w);

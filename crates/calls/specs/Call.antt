@@ -5,14 +5,14 @@ use mathlib.Core.List.{List, []}
 use lib.ListN.{length, getD}
 use lib.Dec.{eqb}
 use Rattle.wire.specs.Wire.{pick}
-use Rattle.rnic.specs.Rnic.{openedRnic, rnicOpened, rnicClosed, rnicPosted, rnicTaken, rnicReceived, rnicReceivedStore, rnicRegistered, rnicDropped, rnicLive, rnicFree}
+use Rattle.rnic.specs.Rnic.{openedRnic, rnicOpened, rnicClosed, rnicPosted, rnicTaken, rnicReceived, rnicReceivedStore, rnicRegistered, rnicDropped, rnicLive, rnicFree, rnicTicked, rnicReading}
 use Rattle.rnic.specs.Offer.{rnicOffered, rnicOfferAnswer}
 use Rattle.rnic.specs.declared.Rnic.{Rnic}
 use Rattle.rnic.specs.declared.RnicDone.{RnicDone}
 use Rattle.rnic.specs.declared.RnicClosed.{RnicClosed}
 use Rattle.rnic.specs.declared.RnicTaken.{RnicTaken}
 use Rattle.rnic.specs.declared.RnicReceived.{RnicReceived}
-use Rattle.calls.specs.Words.{refusedWords, outcomeWords, closeWords, takeWords, countWords, answerWords, offerWords}
+use Rattle.calls.specs.Words.{refusedWords, outcomeWords, closeWords, takeWords, countWords, readingWords, answerWords, offerWords}
 
 -- the device after a call, and the answer's words
 pub record Called : Type 0 where
@@ -53,6 +53,9 @@ calledPost b a = done (rnicPosted b (arg a 0) (arg a 1) (arg a 2))
 abbrev pub calledTake : Rnic → List ℕ → Called
 calledTake b a = record { rnic = rnicTaken b (arg a 0) .rnic; words = takeWords (rnicTaken b (arg a 0) .answer) }
 
+abbrev pub calledTick : Rnic → List ℕ → Called
+calledTick b a = done (rnicTicked b (arg a 0))
+
 abbrev pub calledReceive : Rnic → ℕ → ℕ → List ℕ → Called
 calledReceive b size stream input = record { rnic = rnicReceived b size stream input .rnic; words = answerWords (rnicReceived b size stream input .answer) }
 
@@ -78,7 +81,9 @@ called b size number a input =
     (pick (eqb number 7) (record { rnic = b; words = countWords (rnicLive b (arg a 0)) })
     (pick (eqb number 8) (record { rnic = b; words = countWords (rnicFree b (arg a 0)) })
     (pick (eqb number 9) (calledReceive b size (arg a 0) input)
-    (notCalled b))))))))))
+    (pick (eqb number 10) (calledTick b a)
+    (pick (eqb number 11) (record { rnic = b; words = readingWords (rnicReading b (arg a 0)) })
+    (notCalled b))))))))))))
 
 -- and the store: receive alone is lent it
 unfoldable pub calledStore : Rnic → ℕ → List ℕ → List ℕ → List ℕ → List ℕ

@@ -17,6 +17,11 @@ use Rattle.domain.specs.declared.Answer.{Answer}
 use Rattle.domain.specs.declared.Answer.the-variants.{Wait, Taken, Ended, Refused}
 use Rattle.holding.specs.declared.OfferAnswer.{OfferAnswer}
 use Rattle.holding.specs.declared.OfferAnswer.the-variants.{Kept, Completed, Ended as OfferEnded, Refused as OfferRefused}
+use Rattle.meter.specs.Words.{levelBits}
+use Rattle.meter.specs.declared.gauge.Reading.{Reading}
+use Rattle.meter.specs.declared.gauge.Reading.the-variants.{Quiet, Steady, Falling}
+use Rattle.rnic.specs.declared.ReadingAnswer.{ReadingAnswer}
+use Rattle.rnic.specs.declared.ReadingAnswer.the-variants.{Reads, Refused as NotRead}
 use Rattle.rnic.specs.declared.Count.{Count}
 use Rattle.rnic.specs.declared.Count.the-variants.{Counted, Refused as NotCounted}
 
@@ -46,6 +51,13 @@ takeWords (NotTaken number) = refusedWords number
 abbrev pub countWords : Count → List ℕ
 countWords (Counted n) = words 4 n 0 0 0 0
 countWords (NotCounted number) = refusedWords number
+
+-- a gauge reads as quiet (12), steady with the bits of its level (13), or falling with those of level and peak (14)
+abbrev pub readingWords : ReadingAnswer → List ℕ
+readingWords (Reads Quiet) = words 12 0 0 0 0 0
+readingWords (Reads (Steady level)) = words 13 (levelBits level) 0 0 0 0
+readingWords (Reads (Falling level peak)) = words 14 (levelBits level) (levelBits peak) 0 0 0
+readingWords (NotRead number) = refusedWords number
 
 -- an FPDU is taken: 6 with no event, 7 a Send, 8 a Send that invalidated an STag, 9 a Terminate
 abbrev pub eventWords : ℕ → Event → List ℕ

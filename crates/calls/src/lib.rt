@@ -14,9 +14,11 @@ use crate::one::call_lowest_free;
 use crate::one::call_open;
 use crate::one::call_open_stream;
 use crate::one::call_post;
+use crate::one::call_reading;
 use crate::one::call_receive;
 use crate::one::call_register;
 use crate::one::call_take;
+use crate::one::call_tick;
 use crate::words::words;
 use rnic::Rnic;
 
@@ -51,6 +53,11 @@ pub fn call(
             b
         }
         9 => call_receive(b, store, a[0], bytes, answer),
+        10 => call_tick(b, a, answer),
+        11 => {
+            call_reading(b, a, answer);
+            b
+        }
         _ => {
             *answer = words(0, 1, 0, 0, 0, 0);
             b

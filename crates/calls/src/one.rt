@@ -2,7 +2,7 @@
 // answer written as words. A call takes the first of the numbers that it needs, and looks at no other.
 ghost use mathlib.Core.Path.{_≡_};
 ghost use lib.ListN.{length};
-ghost use Rattle.calls.specs.Words.{countWords};
+ghost use Rattle.calls.specs.Words.{countWords, readingWords};
 ghost use Rattle.calls.specs.Call.{
   arg,
   calledOpen,
@@ -13,12 +13,14 @@ ghost use Rattle.calls.specs.Call.{
   calledPost,
   calledTake,
   calledReceive,
+  calledTick,
 };
-ghost use Rattle.rnic.specs.Rnic.{rnicLive, rnicFree, rnicReceivedStore};
+ghost use Rattle.rnic.specs.Rnic.{rnicLive, rnicFree, rnicReading, rnicReceivedStore};
 use crate::words::answer_words;
 use crate::words::close_words;
 use crate::words::count_words;
 use crate::words::outcome_words;
+use crate::words::reading_words;
 use crate::words::take_words;
 use rnic::Rnic;
 
@@ -121,4 +123,21 @@ pub(crate) fn call_receive(
     let received = done.answer;
     *answer = answer_words(received);
     done.rnic
+}
+
+// Ticks a domain.
+pub(crate) fn call_tick(b: Rnic, a: &[u64; 9], answer: &mut [u64; 8]) -> Rnic
+    ensures { λ r. ⌜ (r ≡ calledTick b (now (a .entry)) .rnic) × (now (answer .exit) ≡ calledTick b (now (a .entry)) .words) ⌝ }
+{
+    let done = rnic::tick(b, a[0]);
+    let outcome = done.outcome;
+    *answer = outcome_words(outcome);
+    done.rnic
+}
+
+// What a domain's gauge reads as.
+pub(crate) fn call_reading(b: Rnic, a: &[u64; 9], answer: &mut [u64; 8])
+    ensures { λ _. ⌜ now (answer .exit) ≡ readingWords (rnicReading b (arg (now (a .entry)) 0)) ⌝ }
+{
+    *answer = reading_words(rnic::reading(b, a[0]));
 }

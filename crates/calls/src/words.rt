@@ -8,6 +8,7 @@ ghost use Rattle.calls.specs.Words.{
   closeWords,
   takeWords,
   countWords,
+  readingWords,
   eventWords,
   endedWords,
   answerWords,
@@ -19,9 +20,12 @@ use ddp::refusal::Refusal;
 use domain::Answer;
 use domain::Event;
 use memory::part::Outcome;
+use meter::gauge::Reading;
+use meter::words::level_bits;
 use rdmap::stream::CloseAnswer;
 use rdmap::stream::TakeAnswer;
 use rnic::Count;
+use rnic::ReadingAnswer;
 
 // A kind and up to five numbers.
 pub fn words(kind: u64, a: u64, b: u64, c: u64, d: u64, e: u64) -> [u64; 8]
@@ -74,6 +78,27 @@ pub fn count_words(count: Count) -> [u64; 8]
     match count {
         Count::Counted(n) => words(4, n as u64, 0, 0, 0, 0),
         Count::Refused(number) => words(0, number as u64, 0, 0, 0, 0),
+    }
+}
+
+// What a gauge reads as.
+fn gauge_words(reading: Reading) -> [u64; 8]
+    ensures { λ r. ⌜ r ≡ readingWords (ReadingAnswer.Reads reading) ⌝ }
+{
+    match reading {
+        Reading::Quiet => words(12, 0, 0, 0, 0, 0),
+        Reading::Steady(level) => words(13, level_bits(level), 0, 0, 0, 0),
+        Reading::Falling(level, peak) => words(14, level_bits(level), level_bits(peak), 0, 0, 0),
+    }
+}
+
+// What asking for a reading answers.
+pub fn reading_words(answer: ReadingAnswer) -> [u64; 8]
+    ensures { λ r. ⌜ r ≡ readingWords answer ⌝ }
+{
+    match answer {
+        ReadingAnswer::Reads(reading) => gauge_words(reading),
+        ReadingAnswer::Refused(number) => refused_words(number),
     }
 }
 

@@ -22,6 +22,7 @@ use Rattle.rdmap.specs.Stream.{closedStream}
 use Rattle.rdmap.specs.Terminates.{emptyTerminates}
 use Rattle.domain.specs.Domain.{domainReceived, domainReceivedBytes}
 use Rattle.domain.specs.Parts.{partsApplied, placedFrom, appliedBytes, partsReceived, partsReceivedBytes}
+use Rattle.meter.specs.Gauge.{newMeter}
 use Rattle.domain.specs.declared.Event.the-variants.{Sent}
 use Rattle.cuts.specs.Cuts.{offer, Outcome, drainIn, drain, drainAll, joined, singles}
 use Rattle.cuts.specs.Received.{Side, Report, received}
@@ -41,6 +42,7 @@ start = record {
       reads = emptyReads 1;
       terminates = emptyTerminates 1;
     });
+    meter = newMeter;
   };
   bytes = replicate 64 0;
 }

@@ -38,7 +38,9 @@ use Rattle.rdmap.specs.declared.phase.Phase.{Phase}
 use Rattle.rdmap.specs.declared.phase.Readiness.{Readiness}
 use Rattle.rdmap.specs.declared.phase.Readiness.the-variants.{Ready, NotReady}
 use Rattle.rdmap.specs.declared.stream.Stream.{Stream}
-use Rattle.domain.specs.Domain.{noStream, streamAt, domainReceived, domainReceivedBytes}
+use Rattle.meter.specs.Gauge.{countedMeter}
+use Rattle.meter.specs.declared.Meter.{Meter}
+use Rattle.domain.specs.Domain.{noStream, streamAt, withMeter, segmentCount, metered, meteredOf, domainReceived, domainReceivedBytes}
 use Rattle.domain.specs.Parts.{partsApplied, appliedBytes, partsVerdict, partsJudged, partsPlaced, partsAnswered, partsWhen, partsBytesWhen, partsReceived, partsReceivedBytes, killed, lifted}
 use Rattle.domain.specs.declared.Domain.{Domain}
 use Rattle.domain.specs.declared.Event.the-variants.{NoEvent, Sent, SentInvalidating, Terminated}
@@ -197,27 +199,27 @@ module _ (number slot : ℕ) where
     abbrev crcOn : Bool
     crcOn = own .framing .crc
 
-    -- by what it makes of the stream, and the bytes
-    abbrev byParts : PartsReceived → List ℕ → Step Side Report
-    byParts r bytes = stepOf (r .answer) (record { domain = lifted (w .domain) slot r .domain; bytes = bytes })
+    -- by the segment, what it makes of the stream, and the bytes
+    abbrev byParts : SegmentRead → PartsReceived → List ℕ → Step Side Report
+    byParts x r bytes = stepOf (r .answer) (record { domain = metered (r .answer) x (lifted (w .domain) slot r .domain); bytes = bytes })
 
     no-slot : 3 < slot → (p : List ℕ) → received number slot w p ≡ refuses 1
     unfolding received domainReceived
     no-slot h p =
-        ap (λ (b : Bool). stepOf (pick b (lifted (w .domain) slot (partsReceived (w .domain .windows) number own p)) (record { answer = Refused 1; domain = w .domain }) .answer)
+        ap (λ (b : Bool). stepOf (pick b (meteredOf (segmentRead crcOn p) (lifted (w .domain) slot (partsReceived (w .domain .windows) number own p))) (record { answer = Refused 1; domain = w .domain }) .answer)
         (record {
-          domain = pick b (lifted (w .domain) slot (partsReceived (w .domain .windows) number own p)) (record { answer = Refused 1; domain = w .domain }) .domain;
+          domain = pick b (meteredOf (segmentRead crcOn p) (lifted (w .domain) slot (partsReceived (w .domain .windows) number own p))) (record { answer = Refused 1; domain = w .domain }) .domain;
           bytes = domainReceivedBytes (w .domain) number slot p (w .bytes);
         })) (lt-leb slot 3 h)
 
     by-parts :
         slot ≤ 3 → (p : List ℕ) →
-        received number slot w p ≡ byParts (partsReceived (w .domain .windows) number own p) (partsReceivedBytes (w .domain .part) (w .domain .windows) number own p (w .bytes))
+        received number slot w p ≡ byParts (segmentRead crcOn p) (partsReceived (w .domain .windows) number own p) (partsReceivedBytes (w .domain .part) (w .domain .windows) number own p (w .bytes))
     unfolding received domainReceived domainReceivedBytes
     by-parts h p =
-        ap (λ (b : Bool). stepOf (pick b (lifted (w .domain) slot (partsReceived (w .domain .windows) number own p)) (record { answer = Refused 1; domain = w .domain }) .answer)
+        ap (λ (b : Bool). stepOf (pick b (meteredOf (segmentRead crcOn p) (lifted (w .domain) slot (partsReceived (w .domain .windows) number own p))) (record { answer = Refused 1; domain = w .domain }) .answer)
         (record {
-          domain = pick b (lifted (w .domain) slot (partsReceived (w .domain .windows) number own p)) (record { answer = Refused 1; domain = w .domain }) .domain;
+          domain = pick b (meteredOf (segmentRead crcOn p) (lifted (w .domain) slot (partsReceived (w .domain .windows) number own p))) (record { answer = Refused 1; domain = w .domain }) .domain;
           bytes = pick b (partsReceivedBytes (w .domain .part) (w .domain .windows) number own p (w .bytes)) (w .bytes);
         })) (le-leb slot 3 h)
 
@@ -225,7 +227,7 @@ module _ (number slot : ℕ) where
     unfolding partsReceived partsReceivedBytes
     not-ready h k e p =
         by-parts h p
-        ∙ ap (λ (x : Readiness). byParts (partsWhen (w .domain .windows) number own p x) (partsBytesWhen (w .domain .part) (w .domain .windows) number own p (w .bytes) x)) e
+        ∙ ap (λ (x : Readiness). byParts (segmentRead crcOn p) (partsWhen (w .domain .windows) number own p x) (partsBytesWhen (w .domain .part) (w .domain .windows) number own p (w .bytes) x)) e
 
     -- an open stream
     pub record Opened : Type 0 where
@@ -233,13 +235,13 @@ module _ (number slot : ℕ) where
       pub ready : readiness (own .phase) ≡ Ready
 
     abbrev bySegment : List ℕ → SegmentRead → Step Side Report
-    bySegment p x = byParts (partsAnswered own (partsJudged (w .domain .windows) number own p x)) (partsPlaced (w .domain .part) (w .domain .windows) number own p (w .bytes) x)
+    bySegment p x = byParts x (partsAnswered own (partsJudged (w .domain .windows) number own p x)) (partsPlaced (w .domain .part) (w .domain .windows) number own p (w .bytes) x)
 
     open-step : Opened → (p : List ℕ) (x : SegmentRead) → segmentRead crcOn p ≡ x → received number slot w p ≡ bySegment p x
     unfolding partsReceived partsReceivedBytes
     open-step o p x e =
         by-parts (o .inside) p
-        ∙ ap (λ (x : Readiness). byParts (partsWhen (w .domain .windows) number own p x) (partsBytesWhen (w .domain .part) (w .domain .windows) number own p (w .bytes) x)) (o .ready)
+        ∙ ap (λ (x : Readiness). byParts (segmentRead crcOn p) (partsWhen (w .domain .windows) number own p x) (partsBytesWhen (w .domain .part) (w .domain .windows) number own p (w .bytes) x)) (o .ready)
         ∙ ap (bySegment p) e
 
     -- it is open, or refuses whatever comes
@@ -274,7 +276,7 @@ module _ (number slot : ℕ) where
           let inside : endOf x ≤ sizeOf p = subst (λ (z : SegmentRead). endOf z ≤ sizeOf p) (own-read p k crcOn) (omega (arith, segment-inside crcOn q, own-long p k)) in
           let same = same-payload (w .domain .part) (w .domain .windows) number own (w .bytes) (sizeOf p) p x (k .all) inside in
           open-step o q x (own-read p k crcOn)
-          ∙ ap₂ byParts (same .answered) (same .placed)
+          ∙ ap₂ (byParts x) (same .answered) (same .placed)
           ∙ sym (open-step o p x refl)
 
       -- it is taken, with the FPDU's total, or ends the stream
@@ -295,7 +297,7 @@ module _ (number slot : ℕ) where
           let r : PartsReceived = partsAnswered own (partsJudged (w .domain .windows) number own p (segmentRead crcOn p)) in
           let bytes : List ℕ = partsPlaced (w .domain .part) (w .domain .windows) number own p (w .bytes) (segmentRead crcOn p) in
           subst Decides (sym (open-step o p (segmentRead crcOn p) refl))
-          (decides-of (r .answer) (record { domain = lifted (w .domain) slot r .domain; bytes = bytes }) (whole-judges (w .domain .windows) number own p k crcOn))
+          (decides-of (r .answer) (record { domain = metered (r .answer) (segmentRead crcOn p) (lifted (w .domain) slot r .domain); bytes = bytes }) (whole-judges (w .domain .windows) number own p k crcOn))
 
     -- ---- the domain afterwards
 
@@ -312,11 +314,11 @@ module _ (number slot : ℕ) where
 
   -- where it is left in a phase that is not open, every call is refused
   then-shut :
-      (w : Side) → Opened w → (r : PartsReceived) (bytes : List ℕ) (x : Phase) → r .stream .phase ≡ x → (k : ℕ) → readiness x ≡ NotReady k → (q : List ℕ) →
-      received number slot (record { domain = lifted (w .domain) slot r .domain; bytes = bytes }) q ≡ refuses k
-  then-shut w o r bytes x e k u =
+      (w : Side) → Opened w → (r : PartsReceived) (m : Meter) (bytes : List ℕ) (x : Phase) → r .stream .phase ≡ x → (k : ℕ) → readiness x ≡ NotReady k → (q : List ℕ) →
+      received number slot (record { domain = withMeter (lifted (w .domain) slot r .domain) m; bytes = bytes }) q ≡ refuses k
+  then-shut w o r m bytes x e k u =
       let there : getD (set (w .domain .streams) slot (r .stream)) slot noStream ≡ r .stream = getD-set-same (w .domain .streams) slot (r .stream) noStream (inside-streams w o) in
-      not-ready (record { domain = lifted (w .domain) slot r .domain; bytes = bytes }) (o .inside) k (ap (λ (s : Stream). readiness (s .phase)) there ∙ ap readiness e ∙ u)
+      not-ready (record { domain = withMeter (lifted (w .domain) slot r .domain) m; bytes = bytes }) (o .inside) k (ap (λ (s : Stream). readiness (s .phase)) there ∙ ap readiness e ∙ u)
 
   -- after a refusal of the peer's bytes and after a Terminate every call is refused with 5
   abbrev pub Left : Step Side Report → Type 0
@@ -330,15 +332,15 @@ module _ (number slot : ℕ) where
   Left (refuses k) = Unit {0}
 
   left-of :
-      (w : Side) → Opened w → (r : PartsReceived) (bytes : List ℕ) (a : Answer) → Fair (streamAt (w .domain) slot) (r .stream) (r .invalidate) a →
-      Left (stepOf a (record { domain = lifted (w .domain) slot r .domain; bytes = bytes }))
-  left-of w o r bytes (Wait n) f = tt
-  left-of w o r bytes (Taken total NoEvent) f = tt
-  left-of w o r bytes (Taken total (Sent start len opcode)) f = tt
-  left-of w o r bytes (Taken total (SentInvalidating start len opcode stag)) f = tt
-  left-of w o r bytes (Taken total (Terminated layer etype code)) f = then-shut w o r bytes (phaseOf 3) f 5 refl
-  left-of w o r bytes (Ended x) f = then-shut w o r bytes (endedPhase x) f 5 refl
-  left-of w o r bytes (Refused k) f = tt
+      (w : Side) → Opened w → (x : SegmentRead) (r : PartsReceived) (bytes : List ℕ) (a : Answer) → Fair (streamAt (w .domain) slot) (r .stream) (r .invalidate) a →
+      Left (stepOf a (record { domain = metered a x (lifted (w .domain) slot r .domain); bytes = bytes }))
+  left-of w o x r bytes (Wait n) f = tt
+  left-of w o x r bytes (Taken total NoEvent) f = tt
+  left-of w o x r bytes (Taken total (Sent start len opcode)) f = tt
+  left-of w o x r bytes (Taken total (SentInvalidating start len opcode stag)) f = tt
+  left-of w o x r bytes (Taken total (Terminated layer etype code)) f = then-shut w o r (countedMeter (w .domain .meter) (segmentCount x)) bytes (phaseOf 3) f 5 refl
+  left-of w o x r bytes (Ended y) f = then-shut w o r (w .domain .meter) bytes (endedPhase y) f 5 refl
+  left-of w o x r bytes (Refused k) f = tt
 
   pub left : (w : Side) (p : List ℕ) → Left (received number slot w p)
   left w p = go (standing w)
@@ -348,7 +350,7 @@ module _ (number slot : ℕ) where
       go (ready o) =
           let r : PartsReceived = partsReceived (w .domain .windows) number (streamAt (w .domain) slot) p in
           subst Left (sym (by-parts w (o .inside) p))
-          (left-of w o r (partsReceivedBytes (w .domain .part) (w .domain .windows) number (streamAt (w .domain) slot) p (w .bytes)) (r .answer) (received-fair (w .domain .windows) number (streamAt (w .domain) slot) p))
+          (left-of w o (segmentRead (streamAt (w .domain) slot .framing .crc) p) r (partsReceivedBytes (w .domain .part) (w .domain .windows) number (streamAt (w .domain) slot) p (w .bytes)) (r .answer) (received-fair (w .domain .windows) number (streamAt (w .domain) slot) p))
 
   -- ---- the laws
 
@@ -460,15 +462,15 @@ module _ (number slot : ℕ) where
       let d : Domain = w .domain in
       let streams : set (d .streams) slot (r .stream) ≡ d .streams = ap (set (d .streams) slot) e ∙ set-getD (d .streams) slot noStream in
       let windows : killed (r .invalidate) (d .windows) ≡ d .windows = ap (λ (i : Invalidate). killed i (d .windows)) f in
-      λ i. record { domain = record { part = d .part; windows = windows i; streams = streams i }; bytes = g i }
+      λ i. record { domain = record { part = d .part; windows = windows i; streams = streams i; meter = d .meter }; bytes = g i }
 
   stays-of :
-      (w : Side) (r : PartsReceived) (bytes : List ℕ) (a : Answer) → Fair (streamAt (w .domain) slot) (r .stream) (r .invalidate) a → Keeps a (w .bytes) bytes →
-      Stays w (record { domain = lifted (w .domain) slot r .domain; bytes = bytes }) a
-  stays-of w r bytes (Wait n) f g = unchanged w r bytes (f .0) (f .1) g
-  stays-of w r bytes (Taken total e) f g = tt
-  stays-of w r bytes (Ended x) f g = tt
-  stays-of w r bytes (Refused k) f g = unchanged w r bytes (f .0) (f .1) g
+      (w : Side) (x : SegmentRead) (r : PartsReceived) (bytes : List ℕ) (a : Answer) → Fair (streamAt (w .domain) slot) (r .stream) (r .invalidate) a → Keeps a (w .bytes) bytes →
+      Stays w (record { domain = metered a x (lifted (w .domain) slot r .domain); bytes = bytes }) a
+  stays-of w x r bytes (Wait n) f g = unchanged w r bytes (f .0) (f .1) g
+  stays-of w x r bytes (Taken total e) f g = tt
+  stays-of w x r bytes (Ended y) f g = tt
+  stays-of w x r bytes (Refused k) f g = unchanged w r bytes (f .0) (f .1) g
 
   stays : (w : Side) (p : List ℕ) → Stays w (sideAfter number slot w p) (domainReceived (w .domain) number slot p .answer)
   unfolding domainReceived domainReceivedBytes
@@ -478,13 +480,13 @@ module _ (number slot : ℕ) where
           (b : Bool) →
           Stays w
           (record {
-            domain = pick b (lifted (w .domain) slot (partsReceived (w .domain .windows) number (streamAt (w .domain) slot) p)) (record { answer = Refused 1; domain = w .domain }) .domain;
+            domain = pick b (meteredOf (segmentRead (streamAt (w .domain) slot .framing .crc) p) (lifted (w .domain) slot (partsReceived (w .domain .windows) number (streamAt (w .domain) slot) p))) (record { answer = Refused 1; domain = w .domain }) .domain;
             bytes = pick b (partsReceivedBytes (w .domain .part) (w .domain .windows) number (streamAt (w .domain) slot) p (w .bytes)) (w .bytes);
           })
-          (pick b (lifted (w .domain) slot (partsReceived (w .domain .windows) number (streamAt (w .domain) slot) p)) (record { answer = Refused 1; domain = w .domain }) .answer)
+          (pick b (meteredOf (segmentRead (streamAt (w .domain) slot .framing .crc) p) (lifted (w .domain) slot (partsReceived (w .domain .windows) number (streamAt (w .domain) slot) p))) (record { answer = Refused 1; domain = w .domain }) .answer)
       go true =
           let r : PartsReceived = partsReceived (w .domain .windows) number (streamAt (w .domain) slot) p in
-          stays-of w r (partsReceivedBytes (w .domain .part) (w .domain .windows) number (streamAt (w .domain) slot) p (w .bytes)) (r .answer)
+          stays-of w (segmentRead (streamAt (w .domain) slot .framing .crc) p) r (partsReceivedBytes (w .domain .part) (w .domain .windows) number (streamAt (w .domain) slot) p (w .bytes)) (r .answer)
           (received-fair (w .domain .windows) number (streamAt (w .domain) slot) p) (received-keeps (w .domain .part) (w .domain .windows) number (streamAt (w .domain) slot) p (w .bytes))
       go false = refl
 

@@ -13,6 +13,7 @@ use Rattle.rdmap.specs.Framing.{newFraming}
 use Rattle.rdmap.specs.Read.{emptyReads}
 use Rattle.rdmap.specs.Terminates.{emptyTerminates}
 use Rattle.rdmap.specs.Stream.{closedStream}
+use Rattle.meter.specs.Gauge.{newMeter}
 use Rattle.domain.specs.declared.Domain.{Domain}
 use Rattle.sender.specs.Cut.{pieceOf, endsIn}
 use Rattle.sender.specs.Message.{writeBegun, sendBegun, advanced, segmentsOf}
@@ -37,6 +38,7 @@ held = record {
     reads = emptyReads 1;
     terminates = emptyTerminates 1;
   });
+  meter = newMeter;
 }
 
 abbrev zeros : List ℕ

@@ -28,7 +28,7 @@ use Rattle.domain.specs.declared.Event.the-variants.{NoEvent}
 use Rattle.sender.specs.Message.{stagHeld, writeBegun, sendBegun, segmentBytes, advanced, segmentsOf}
 use Rattle.sender.specs.declared.Message.{Message}
 use Rattle.sender.specs.declared.Begun.the-variants.{Ready as Begins}
-use Rattle.delivery.specs.Delivery.{framed, fpdusOf, Begin, Outcome, receivedAll, withEvent, eventsOf, answersOf, invalidates, sentDomain}
+use Rattle.delivery.specs.Delivery.{framed, fpdusOf, Begin, Outcome, receivedAll, withEvent, eventsOf, answersOf, invalidates, sentDomain, writtenDomain}
 use Rattle.delivery.specs.Promise.{SendRoom, WriteRoom, bufferOf, windowOf, eventOf, SendDelivered, WriteDelivered}
 use Rattle.delivery.proofs.Begun.{SendAccepted, WriteAccepted, send-accepted, write-accepted}
 use Rattle.delivery.proofs.Placed.{put-placed, none-said, one-said}
@@ -131,16 +131,16 @@ module _
         receivedAll d number slot bytes inputs
         ≡ record {
           answers = answersOf (eventOf d slot opcode stag message) (fpdusOf m message);
-          domain = sentDomain d slot (invalidates opcode stag);
+          domain = sentDomain d slot (invalidates opcode stag) (length message);
           bytes = put bytes (bufferOf d slot .start - d .part .start) message;
         }
     send-outcome =
         ap (λ (x : Domain). receivedAll x number slot bytes inputs) (sym (own-stream d slot))
         ∙ send-received limit opcode (stagHeld opcode stag) msn message (a .low) (a .high) (a .short) (a .send) (a .msn-fits) (a .stag-fits)
-        d number slot (room .opened .inside) (room .opened .four) live (streamAt d slot) bytes inputs expected (room .opened .whole) begin-at
+        d number slot (room .opened .inside) (room .opened .four) live (streamAt d slot) (d .meter) bytes inputs expected (room .opened .whole) begin-at
         ∙ outcome-path
         (ap₂ (λ (i : Invalidate) (x : Message). answersOf (sentEvent (bufferOf d slot .start) (length message) opcode i) (fpdusOf x message)) (held-same opcode stag) (sym (a .is)))
-        (ap (sentDomain d slot) (held-same opcode stag))
+        (ap (λ (i : Invalidate). sentDomain d slot i (length message)) (held-same opcode stag))
         (ap (λ (n : ℕ). put bytes n message) (add-zero (bufferOf d slot .start - d .part .start)))
 
     pub send-delivered : SendDelivered d slot bytes inputs (fpdusOf m message) opcode stag message (receivedAll d number slot bytes inputs)
@@ -187,14 +187,14 @@ module _
 
     write-outcome :
         receivedAll d number slot bytes inputs
-        ≡ record { answers = answersOf NoEvent (fpdusOf m message); domain = d; bytes = put bytes place message }
+        ≡ record { answers = answersOf NoEvent (fpdusOf m message); domain = writtenDomain d (length message); bytes = put bytes place message }
     write-outcome =
         ap (λ (x : Domain). receivedAll x number slot bytes inputs) (sym (own-stream d slot))
         ∙ write-received limit stag to message (w .low) (w .high) (w .stag-fits) (w .ends)
-        d number slot (room .opened .inside) (room .opened .four) (room .covers) (λ l. (room .lies l .from, room .lies l .upto)) (streamAt d slot) bytes inputs (room .opened .ready) (room .opened .whole) begin-written
+        d number slot (room .opened .inside) (room .opened .four) (room .covers) (λ l. (room .lies l .from, room .lies l .upto)) (streamAt d slot) (d .meter) bytes inputs (room .opened .ready) (room .opened .whole) begin-written
         ∙ outcome-path
         (ap (λ (x : Message). answersOf NoEvent (fpdusOf x message)) (sym (w .is)))
-        (own-stream d slot)
+        (ap (λ (x : Domain). writtenDomain x (length message)) (own-stream d slot))
         (ap (λ (n : ℕ). put bytes n message) (add-zero place))
 
     empty-put : (l : List ℕ) (n : ℕ) → length l ≡ 0 → put bytes n l ≡ bytes

@@ -21,7 +21,7 @@ use Rattle.delivery.specs.Delivery.{fpdusOf, Begin, Outcome, receivedAll
 use Rattle.delivery.specs.Promise.{SendDelivered, WriteDelivered, bufferOf, windowOf}
 use Rattle.delivery.specs.Device.{DeviceOutcome, rnicReceivedAll, ownerOf, Fits, DeviceSendRoom, DeviceWriteRoom, DeviceSendDelivered, DeviceWriteDelivered}
 use Rattle.delivery.proofs.Delivery.{send-delivered, write-delivered}
-use Rattle.delivery.proofs.Lifted.{own-entry, all-lifted}
+use Rattle.delivery.proofs.Lifted.{all-lifted}
 use Rattle.delivery.proofs.Placed.{put-placed}
 use Rattle.delivery.proofs.Store.{put-in-store}
 
@@ -94,5 +94,6 @@ module _ (b : Rnic) (n : ℕ) (mem : List ℕ) (f : Fits b n mem) (inputs : List
             put-placed mem (windowOf (ownerOf b n) stag .place + (to - windowOf (ownerOf b n) stag .base)) message (omega (arith, c .above, c .below, z .upto, f .within)) _
             (store-put (windowOf (ownerOf b n) stag .place + (to - windowOf (ownerOf b n) stag .base)) message (omega (arith, z .from)) (omega (arith, c .above, c .below, z .upto)) (written .placed l .is));
         empty = λ e. store-is (bytesOf (ownerOf b n) mem) (written .empty e) ∙ put-same (ownerOf b n .part .start) (ownerOf b n .part .end - ownerOf b n .part .start) mem;
-        rnic = rnic-is ∙ ap (withDomain b (n / 4)) (written .domain) ∙ own-entry b n mem f;
+        rnic = rnic-is ∙ ap (withDomain b (n / 4)) (written .domain);
+        others = other-is;
       }

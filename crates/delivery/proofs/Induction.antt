@@ -5,12 +5,14 @@ use mathlib.Core.Path.{_≡_, refl, sym, ap, ap₂, subst, _∙_}
 use mathlib.Core.Bool.{Bool, true, false}
 use mathlib.Core.List.{List, [], _∷_, _++_, append-nil}
 use native.Mathlib.Omega.{arith}
-use lib.ListN.{length, drop}
+use lib.ListN.{length, drop, length-append}
 use Rattle.wire.specs.Wire.{part, put}
 use Rattle.wire.proofs.Laws.{put-put, length-put}
 use Rattle.ddp.specs.Segment.{segmentRead}
 use Rattle.rdmap.specs.declared.stream.Stream.{Stream}
-use Rattle.domain.specs.Domain.{withStream}
+use Rattle.meter.specs.Gauge.{countedMeter}
+use Rattle.meter.specs.declared.Meter.{Meter}
+use Rattle.domain.specs.Domain.{withStream, withMeter}
 use Rattle.domain.specs.declared.Domain.{Domain}
 use Rattle.domain.specs.declared.Event.{Event}
 use Rattle.domain.specs.declared.Event.the-variants.{NoEvent}
@@ -19,6 +21,7 @@ use Rattle.sender.specs.Cut.{pieceOf, endsIn}
 use Rattle.delivery.specs.Delivery.{Begin, Outcome, answering, receivedAll, payloadIn, payloads, eventThen, answersOf}
 use Rattle.delivery.proofs.Cut.{piece-more, piece-long, last-part, piece-joined}
 use Rattle.delivery.proofs.Steps.{outcome-path}
+use Rattle.delivery.proofs.Counted.{counted-twice}
 
 begin-none : (inputs : List (List ℕ)) → Begin inputs [] → inputs ≡ []
 begin-none [] b = refl
@@ -85,13 +88,21 @@ module _ (room : ℕ) (pos : 1 ≤ room) (message : List ℕ) where
                 ∙ piece-joined room message at h
 
       -- received by a domain's stream, of which Inv holds where so many bytes are taken: the next stream, and of a stream the event, the
-      -- domain at the end and where the message goes
+      -- domain at the end, but for its meter, and where the message goes
       module _
           (d : Domain) (number slot : ℕ) (Inv : Stream → ℕ → Type 0) (next : Stream → ℕ → Stream)
           (event : Stream → Event) (final : Stream → Domain) (base : Stream → ℕ)
         where
-          abbrev pub outcomeOf : Stream → ℕ → List ℕ → List (List ℕ) → Outcome
-          outcomeOf s at bytes fs = record { answers = answersOf (event s) fs; domain = final s; bytes = put bytes (base s + at) (drop at message) }
+          -- the domain before one of them, with this stream and this meter
+          abbrev pub before : Stream → Meter → Domain
+          before s m = withMeter (withStream d slot s) m
+
+          abbrev pub outcomeOf : Stream → Meter → ℕ → List ℕ → List (List ℕ) → Outcome
+          outcomeOf s m at bytes fs = record {
+            answers = answersOf (event s) fs;
+            domain = withMeter (final s) (countedMeter m (length (drop at message)));
+            bytes = put bytes (base s + at) (drop at message);
+          }
 
           abbrev pub Whole : List ℕ → Type 0
           Whole bytes = length bytes ≡ d .part .end - d .part .start
@@ -99,15 +110,16 @@ module _ (room : ℕ) (pos : 1 ≤ room) (message : List ℕ) where
           -- what the last one does
           abbrev pub Last : Type 0
           Last =
-              (s : Stream) (at : ℕ) (bytes rest : List ℕ) → at ≤ length message → Inv s at → Whole bytes → lastAt at ≡ true →
-              receivedAll (withStream d slot s) number slot bytes ((fpduAt at ++ rest) ∷ []) ≡ outcomeOf s at bytes (fpduAt at ∷ [])
+              (s : Stream) (m : Meter) (at : ℕ) (bytes rest : List ℕ) → at ≤ length message → Inv s at → Whole bytes → lastAt at ≡ true →
+              receivedAll (before s m) number slot bytes ((fpduAt at ++ rest) ∷ []) ≡ outcomeOf s m at bytes (fpduAt at ∷ [])
 
           -- what another one does
           abbrev pub More : Type 0
           More =
-              (s : Stream) (at : ℕ) (bytes rest : List ℕ) → at ≤ length message → Inv s at → Whole bytes → lastAt at ≡ false → (inputs : List (List ℕ)) →
-              receivedAll (withStream d slot s) number slot bytes ((fpduAt at ++ rest) ∷ inputs)
-              ≡ answering (Taken (length (fpduAt at)) NoEvent) (receivedAll (withStream d slot (next s at)) number slot (put bytes (base s + at) (payloadAt at)) inputs)
+              (s : Stream) (m : Meter) (at : ℕ) (bytes rest : List ℕ) → at ≤ length message → Inv s at → Whole bytes → lastAt at ≡ false → (inputs : List (List ℕ)) →
+              receivedAll (before s m) number slot bytes ((fpduAt at ++ rest) ∷ inputs)
+              ≡ answering (Taken (length (fpduAt at)) NoEvent)
+              (receivedAll (before (next s at) (countedMeter m (length (payloadAt at)))) number slot (put bytes (base s + at) (payloadAt at)) inputs)
 
           -- the stream after it
           pub record Kept (s : Stream) (at : ℕ) : Type 0 where
@@ -120,8 +132,8 @@ module _ (room : ℕ) (pos : 1 ≤ room) (message : List ℕ) where
           module _ (last-one : Last) (one-more : More) (kept : (s : Stream) (at : ℕ) → at ≤ length message → Inv s at → lastAt at ≡ false → Kept s at) where
             abbrev Received : ℕ → Type 0
             Received most =
-                (at : ℕ) (s : Stream) (bytes : List ℕ) (inputs : List (List ℕ)) → at ≤ length message → length message < at + most → Inv s at → Whole bytes →
-                Begin inputs (fpdusFrom most at false) → receivedAll (withStream d slot s) number slot bytes inputs ≡ outcomeOf s at bytes (fpdusFrom most at false)
+                (at : ℕ) (s : Stream) (m : Meter) (bytes : List ℕ) (inputs : List (List ℕ)) → at ≤ length message → length message < at + most → Inv s at → Whole bytes →
+                Begin inputs (fpdusFrom most at false) → receivedAll (before s m) number slot bytes inputs ≡ outcomeOf s m at bytes (fpdusFrom most at false)
 
             -- its payload, and then the others
             both-put :
@@ -136,30 +148,39 @@ module _ (room : ℕ) (pos : 1 ≤ room) (message : List ℕ) where
             still-whole : (s : Stream) (at : ℕ) (bytes : List ℕ) → at ≤ length message → Whole bytes → Kept s at → Whole (put bytes (base s + at) (payloadAt at))
             still-whole s at bytes h whole k = length-put bytes (base s + at) (payloadAt at) (omega (arith, k .fits, piece-long room message at h)) ∙ whole
 
+            both-counted :
+                (s : Stream) (m : Meter) (at : ℕ) → at ≤ length message → Kept s at →
+                withMeter (final (next s at)) (countedMeter (countedMeter m (length (payloadAt at))) (length (drop (at + sizeAt at) message)))
+                ≡ withMeter (final s) (countedMeter m (length (drop at message)))
+            both-counted s m at h k =
+                ap₂ (λ (x : Domain) (y : Meter). withMeter x y) (k .final-same)
+                (counted-twice m (length (payloadAt at)) (length (drop (at + sizeAt at) message)) (length (drop at message))
+                (sym (length-append (payloadAt at) (drop (at + sizeAt at) message)) ∙ ap length (piece-joined room message at h)))
+
             pub received : (most : ℕ) → Received most
             unfolding answersOf
-            received zero at s bytes inputs h fuel u whole b = absurd (omega arith)
-            received (suc most) at s bytes inputs h fuel u whole b =
+            received zero at s m bytes inputs h fuel u whole b = absurd (omega arith)
+            received (suc most) at s m bytes inputs h fuel u whole b =
                 rw (first-of most at) (go (received most) inputs (lastAt at) refl (subst (Begin inputs) (first-of most at) b))
               where
                 go :
                     Received most → (inputs : List (List ℕ)) (t : Bool) → lastAt at ≡ t → Begin inputs (fpduAt at ∷ fpdusFrom most (at + sizeAt at) t) →
-                    receivedAll (withStream d slot s) number slot bytes inputs ≡ outcomeOf s at bytes (fpduAt at ∷ fpdusFrom most (at + sizeAt at) t)
+                    receivedAll (before s m) number slot bytes inputs ≡ outcomeOf s m at bytes (fpduAt at ∷ fpdusFrom most (at + sizeAt at) t)
                 go others [] t e b = absurd b
                 go others (input ∷ inputs) true e b =
                     let no-more : fpdusFrom most (at + sizeAt at) true ≡ [] = none-after most (at + sizeAt at) in
-                    ap₂ (λ (i : List ℕ) (is : List (List ℕ)). receivedAll (withStream d slot s) number slot bytes (i ∷ is)) (b .0 .1) (begin-none inputs (subst (Begin inputs) no-more (b .1)))
-                    ∙ last-one s at bytes (b .0 .0) h u whole e
-                    ∙ ap (λ (fs : List (List ℕ)). outcomeOf s at bytes (fpduAt at ∷ fs)) (sym no-more)
+                    ap₂ (λ (i : List ℕ) (is : List (List ℕ)). receivedAll (before s m) number slot bytes (i ∷ is)) (b .0 .1) (begin-none inputs (subst (Begin inputs) no-more (b .1)))
+                    ∙ last-one s m at bytes (b .0 .0) h u whole e
+                    ∙ ap (λ (fs : List (List ℕ)). outcomeOf s m at bytes (fpduAt at ∷ fs)) (sym no-more)
                 go others (input ∷ inputs) false e b =
                     let k : Kept s at = kept s at h u e in
                     let l = less at e in
                     let n : ℕ = at + sizeAt at in
-                    ap (λ (i : List ℕ). receivedAll (withStream d slot s) number slot bytes (i ∷ inputs)) (b .0 .1)
-                    ∙ one-more s at bytes (b .0 .0) h u whole e inputs
+                    ap (λ (i : List ℕ). receivedAll (before s m) number slot bytes (i ∷ inputs)) (b .0 .1)
+                    ∙ one-more s m at bytes (b .0 .0) h u whole e inputs
                     ∙ ap (answering (Taken (length (fpduAt at)) NoEvent))
-                    (others n (next s at) (put bytes (base s + at) (payloadAt at)) inputs (omega (arith, l .0)) (omega (arith, l .1)) (k .inv) (still-whole s at bytes h whole k) (b .1))
+                    (others n (next s at) (countedMeter m (length (payloadAt at))) (put bytes (base s + at) (payloadAt at)) inputs (omega (arith, l .0)) (omega (arith, l .1)) (k .inv) (still-whole s at bytes h whole k) (b .1))
                     ∙ outcome-path
                     (ap₂ (λ (v w : Event). Taken (length (fpduAt at)) v ∷ answersOf w (fpdusFrom most n false)) (sym (some-after most n (event s) (omega (arith, l .0)))) (k .event-same))
-                    (k .final-same)
+                    (both-counted s m at h k)
                     (both-put s at bytes h whole k)

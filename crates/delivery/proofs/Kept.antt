@@ -24,7 +24,7 @@ use Rattle.rdmap.specs.declared.phase.Readiness.{Readiness}
 use Rattle.rdmap.specs.declared.phase.Readiness.the-variants.{Ready, NotReady}
 use Rattle.rdmap.specs.declared.framing.Framing.{Framing}
 use Rattle.rdmap.specs.declared.stream.Stream.{Stream}
-use Rattle.domain.specs.Domain.{noStream, streamAt, domainReceived, domainReceivedBytes}
+use Rattle.domain.specs.Domain.{noStream, streamAt, meteredOf, domainReceived, domainReceivedBytes}
 use Rattle.domain.specs.Parts.{appliedBytes, placedFrom, partsVerdict, partsPlaced, partsBytesWhen, partsReceived, partsReceivedBytes, lifted}
 use Rattle.domain.specs.declared.Domain.{Domain}
 use Rattle.domain.specs.declared.Answer.the-variants.{Refused as NotReceived}
@@ -33,7 +33,7 @@ use Rattle.holding.proofs.Machine.{received-framing}
 
 pub received-keeps : (d : Domain) (number slot : ℕ) (input : List ℕ) → domainReceived d number slot input .domain .part ≡ d .part
 unfolding domainReceived
-received-keeps d number slot input = go (leb slot 3) (lifted d slot (partsReceived (d .windows) number (streamAt d slot) input)) _ refl refl
+received-keeps d number slot input = go (leb slot 3) (meteredOf (segmentRead (streamAt d slot .framing .crc) input) (lifted d slot (partsReceived (d .windows) number (streamAt d slot) input))) (record { answer = NotReceived 1; domain = d }) refl refl
   where
     go : (t : Bool) (x y : Received) → x .domain .part ≡ d .part → y .domain .part ≡ d .part → pick t x y .domain .part ≡ d .part
     go true x y p q = p
@@ -57,7 +57,7 @@ received-holds d number slot input e = go (leb slot 3)
         ∙ e
     there (no l) = ap (λ (x : List Stream). getD x slot noStream .framing .held) (set-out (d .streams) slot after (omega (arith, l))) ∙ e
 
-    go : (t : Bool) → streamAt (pick t (lifted d slot (partsReceived (d .windows) number (streamAt d slot) input)) (record { answer = NotReceived 1; domain = d }) .domain) slot .framing .held ≡ 0
+    go : (t : Bool) → streamAt (pick t (meteredOf (segmentRead (streamAt d slot .framing .crc) input) (lifted d slot (partsReceived (d .windows) number (streamAt d slot) input))) (record { answer = NotReceived 1; domain = d }) .domain) slot .framing .held ≡ 0
     go true = there (decLt slot (length (d .streams)))
     go false = e
 

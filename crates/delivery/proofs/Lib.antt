@@ -3,6 +3,7 @@ pub mod Segment
 pub mod Tagged
 pub mod Cut
 pub mod Steps
+pub mod Counted
 pub mod Induction
 pub mod Send
 pub mod Write

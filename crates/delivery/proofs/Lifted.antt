@@ -119,7 +119,7 @@ module _ (b : Rnic) (n : ℕ) (mem : List ℕ) (f : Fits b n mem) where
       (from inputs (domainReceived d (n / 4) (n % 4) input .domain) (domainReceivedBytes d (n / 4) (n % 4) input bytes)
       (received-keeps d (n / 4) (n % 4) input ∙ q) (received-many d (n / 4) (n % 4) input bytes ∙ l) (received-holds d (n / 4) (n % 4) input z))
 
-  pub own-entry : withDomain b (n / 4) (ownerOf b n) ≡ b
+  own-entry : withDomain b (n / 4) (ownerOf b n) ≡ b
   own-entry i = record { len = b .len; domains = set-getD (b .domains) (n / 4) noDomain i }
 
   pub all-lifted : (inputs : List (List ℕ)) → rnicReceivedAll b n mem inputs ≡ lift (receivedAll (ownerOf b n) (n / 4) (n % 4) (bytesOf (ownerOf b n) mem) inputs)

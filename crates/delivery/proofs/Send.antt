@@ -24,7 +24,9 @@ use Rattle.rdmap.specs.Stream.{sendingOn, sentOn}
 use Rattle.rdmap.specs.declared.message.Invalidate.the-variants.{NoStag}
 use Rattle.rdmap.specs.declared.phase.Readiness.the-variants.{Ready}
 use Rattle.rdmap.specs.declared.stream.Stream.{Stream}
-use Rattle.domain.specs.Domain.{withStream}
+use Rattle.meter.specs.Gauge.{countedMeter}
+use Rattle.meter.specs.declared.Meter.{Meter}
+use Rattle.domain.specs.Domain.{withStream, withMeter}
 use Rattle.domain.specs.Parts.{sentEvent, partsTaken, placedFrom, killed}
 use Rattle.domain.specs.declared.Domain.{Domain}
 use Rattle.domain.specs.declared.Event.{Event}
@@ -135,7 +137,7 @@ module _
         eventOf s = sentEvent (currentBuffer (s .sends) .start) (length message) opcode (invalidates opcode stag)
 
         abbrev domainOf : Stream → Domain
-        domainOf s = record { part = d .part; windows = killed (invalidates opcode stag) (d .windows); streams = set (d .streams) slot (sentOn s) }
+        domainOf s = record { part = d .part; windows = killed (invalidates opcode stag) (d .windows); streams = set (d .streams) slot (sentOn s); meter = d .meter }
 
         -- where the message goes
         abbrev baseOf : Stream → ℕ
@@ -144,10 +146,14 @@ module _
         abbrev nextOf : Stream → ℕ → Stream
         nextOf s at = sendingOn s opcode (at + sizeAt at)
 
-        abbrev outcomeAt : Stream → ℕ → List ℕ → List (List ℕ) → Outcome
-        outcomeAt s at bytes fs = record { answers = answersOf (eventOf s) fs; domain = domainOf s; bytes = put bytes (baseOf s + at) (drop at message) }
+        abbrev outcomeAt : Stream → Meter → ℕ → List ℕ → List (List ℕ) → Outcome
+        outcomeAt s m at bytes fs = record {
+          answers = answersOf (eventOf s) fs;
+          domain = withMeter (domainOf s) (countedMeter m (length (drop at message)));
+          bytes = put bytes (baseOf s + at) (drop at message);
+        }
 
-        module _ (s : Stream) (at : ℕ) (bytes : List ℕ) (h : at ≤ length message) (u : Under d s opcode msn (length message) at) (whole : length bytes ≡ d .part .end - d .part .start) (rest : List ℕ) where
+        module _ (s : Stream) (m : Meter) (at : ℕ) (bytes : List ℕ) (h : at ≤ length message) (u : Under d s opcode msn (length message) at) (whole : length bytes ≡ d .part .end - d .part .start) (rest : List ℕ) where
           expects : Expects s opcode msn at (length (payloadAt at))
           expects = record {
             ready = u .ready;
@@ -169,28 +175,29 @@ module _
           -- the last
           last-one :
               lastAt at ≡ true →
-              receivedAll (withStream d slot s) number slot bytes ((fpduAt at ++ rest) ∷ []) ≡ outcomeAt s at bytes (fpduAt at ∷ [])
+              receivedAll (withMeter (withStream d slot s) m) number slot bytes ((fpduAt at ++ rest) ∷ []) ≡ outcomeAt s m at bytes (fpduAt at ∷ [])
           unfolding receivedAll answersOf
           last-one e =
               let input : List ℕ = fpduAt at ++ rest in
               let end : at + length (payloadAt at) ≡ length message = omega (arith, long at h, piece-last (limit - 18) (length message - at) e) in
               let b : ℕ = currentBuffer (s .sends) .start in
-              received-next d number slot inside four s input bytes (put bytes (baseOf s + at) (payloadAt at)) _ []
+              received-next (withMeter d m) number slot inside four s input bytes (put bytes (baseOf s + at) (payloadAt at)) _ _ [] (carried at h (s .framing .crc) rest)
               (last-answered (d .part) (d .windows) number s input (payloadAt at) bytes (length (fpduAt at)) 20 opcode stag msn at (lastAt at) expects (carried at h (s .framing .crc) rest) (there at h rest) e live)
               (last-placed (d .part) (d .windows) number s input (payloadAt at) bytes (length (fpduAt at)) 20 opcode stag msn at (lastAt at) expects (carried at h (s .framing .crc) rest) (there at h rest) e live ∙ in-place)
               ∙ outcome-path
               (ap (λ (n : ℕ). Taken (length (fpduAt at)) (sentEvent b n opcode (invalidates opcode stag)) ∷ []) end)
-              refl
+              (ap (λ (l : List ℕ). withMeter (domainOf s) (countedMeter m (length l))) (last-part (limit - 18) message at h e))
               (ap (put bytes (baseOf s + at)) (last-part (limit - 18) message at h e))
 
           -- one that is not
           one-more :
               lastAt at ≡ false → (inputs : List (List ℕ)) →
-              receivedAll (withStream d slot s) number slot bytes ((fpduAt at ++ rest) ∷ inputs)
-              ≡ answering (Taken (length (fpduAt at)) NoEvent) (receivedAll (withStream d slot (sendingOn s opcode (at + sizeAt at))) number slot (put bytes (baseOf s + at) (payloadAt at)) inputs)
+              receivedAll (withMeter (withStream d slot s) m) number slot bytes ((fpduAt at ++ rest) ∷ inputs)
+              ≡ answering (Taken (length (fpduAt at)) NoEvent)
+              (receivedAll (withMeter (withStream d slot (sendingOn s opcode (at + sizeAt at))) (countedMeter m (length (payloadAt at)))) number slot (put bytes (baseOf s + at) (payloadAt at)) inputs)
           one-more e inputs =
               let input : List ℕ = fpduAt at ++ rest in
-              received-next d number slot inside four s input bytes (put bytes (baseOf s + at) (payloadAt at)) _ inputs
+              received-next (withMeter d m) number slot inside four s input bytes (put bytes (baseOf s + at) (payloadAt at)) _ _ inputs (carried at h (s .framing .crc) rest)
               (more-answered (d .part) (d .windows) number s input (payloadAt at) bytes (length (fpduAt at)) 20 opcode stag msn at (lastAt at) expects (carried at h (s .framing .crc) rest) (there at h rest) e
               ∙ ap (λ (n : ℕ). partsTaken (sendingOn s opcode (at + n)) (length (fpduAt at)) NoEvent NoStag) (long at h))
               (more-placed (d .part) (d .windows) number s input (payloadAt at) bytes (length (fpduAt at)) 20 opcode stag msn at (lastAt at) expects (carried at h (s .framing .crc) rest) (there at h rest) e ∙ in-place)
@@ -217,10 +224,10 @@ module _
         }
 
         pub send-received :
-            (s : Stream) (bytes : List ℕ) (inputs : List (List ℕ)) → Under d s opcode msn (length message) 0 → length bytes ≡ d .part .end - d .part .start →
+            (s : Stream) (m : Meter) (bytes : List ℕ) (inputs : List (List ℕ)) → Under d s opcode msn (length message) 0 → length bytes ≡ d .part .end - d .part .start →
             Begin inputs (fpdusFrom (suc (length message)) 0 false) →
-            receivedAll (withStream d slot s) number slot bytes inputs ≡ outcomeAt s 0 bytes (fpdusFrom (suc (length message)) 0 false)
-        send-received s bytes inputs u whole b =
+            receivedAll (withMeter (withStream d slot s) m) number slot bytes inputs ≡ outcomeAt s m 0 bytes (fpdusFrom (suc (length message)) 0 false)
+        send-received s m bytes inputs u whole b =
             received (limit - 18) room message fpduAt fpdusFrom first-of none-after d number slot (λ (s : Stream) (at : ℕ). Under d s opcode msn (length message) at) nextOf eventOf domainOf baseOf
-            (λ s at bytes rest h u whole e. last-one s at bytes h u whole rest e) (λ s at bytes rest h u whole e inputs. one-more s at bytes h u whole rest e inputs) (λ s at h u e. goes-on s at h u)
-            (suc (length message)) 0 s bytes inputs (omega arith) (omega arith) u whole b
+            (λ s m at bytes rest h u whole e. last-one s m at bytes h u whole rest e) (λ s m at bytes rest h u whole e inputs. one-more s m at bytes h u whole rest e inputs) (λ s at h u e. goes-on s at h u)
+            (suc (length message)) 0 s m bytes inputs (omega arith) (omega arith) u whole b

@@ -18,7 +18,9 @@ use Rattle.ddp.proofs.Round.{tagged-length}
 use Rattle.rdmap.specs.Phase.{readiness}
 use Rattle.rdmap.specs.declared.phase.Readiness.the-variants.{Ready}
 use Rattle.rdmap.specs.declared.stream.Stream.{Stream}
-use Rattle.domain.specs.Domain.{withStream}
+use Rattle.meter.specs.Gauge.{countedMeter}
+use Rattle.meter.specs.declared.Meter.{Meter}
+use Rattle.domain.specs.Domain.{withStream, withMeter}
 use Rattle.domain.specs.declared.Domain.{Domain}
 use Rattle.domain.specs.declared.Event.the-variants.{NoEvent}
 use Rattle.domain.specs.declared.Answer.the-variants.{Taken}
@@ -124,8 +126,12 @@ module _
         abbrev base : ℕ
         base = named .place + (to - named .base) - d .part .start
 
-        abbrev outcomeAt : Stream → ℕ → List ℕ → List (List ℕ) → Outcome
-        outcomeAt s at bytes fs = record { answers = answersOf NoEvent fs; domain = withStream d slot s; bytes = put bytes (base + at) (drop at message) }
+        abbrev outcomeAt : Stream → Meter → ℕ → List ℕ → List (List ℕ) → Outcome
+        outcomeAt s m at bytes fs = record {
+          answers = answersOf NoEvent fs;
+          domain = withMeter (withStream d slot s) (countedMeter m (length (drop at message)));
+          bytes = put bytes (base + at) (drop at message);
+        }
 
         module _ (at : ℕ) (h : at ≤ length message) where
           covered : 0 < length (payloadAt at) → (toAt at + length (payloadAt at) ≤ 18446744073709551616) × Covers named number stag (toAt at) (length (payloadAt at))
@@ -142,23 +148,26 @@ module _
               let z = lies (omega (arith, ends at h)) in
               omega (arith, to-is at h l, c .above, z .0)
 
-          module _ (s : Stream) (ready : readiness (s .phase) ≡ Ready) (bytes rest : List ℕ) (whole : length bytes ≡ d .part .end - d .part .start) where
+          module _ (s : Stream) (m : Meter) (ready : readiness (s .phase) ≡ Ready) (bytes rest : List ℕ) (whole : length bytes ≡ d .part .end - d .part .start) where
             -- any one of them
             one :
                 (inputs : List (List ℕ)) →
-                receivedAll (withStream d slot s) number slot bytes ((fpduAt at ++ rest) ∷ inputs)
-                ≡ answering (Taken (length (fpduAt at)) NoEvent) (receivedAll (withStream d slot s) number slot (put bytes (base + at) (payloadAt at)) inputs)
+                receivedAll (withMeter (withStream d slot s) m) number slot bytes ((fpduAt at ++ rest) ∷ inputs)
+                ≡ answering (Taken (length (fpduAt at)) NoEvent)
+                (receivedAll (withMeter (withStream d slot s) (countedMeter m (length (payloadAt at)))) number slot (put bytes (base + at) (payloadAt at)) inputs)
             one inputs =
                 let input : List ℕ = fpduAt at ++ rest in
-                received-next d number slot inside four s input bytes (put bytes (base + at) (payloadAt at)) _ inputs
+                received-next (withMeter d m) number slot inside four s input bytes (put bytes (base + at) (payloadAt at)) _ _ inputs (carried at h (s .framing .crc) rest)
                 (write-answered (d .part) (d .windows) number s input bytes (length (fpduAt at)) 16 stag (toAt at) (base + at) (lastAt at) ready (payloadAt at) covered (carried at h (s .framing .crc) rest) (there at h rest))
                 (write-placed (d .part) (d .windows) number s input bytes (length (fpduAt at)) 16 stag (toAt at) (base + at) (lastAt at) ready (payloadAt at) whole covered (λ l. lies (omega (arith, ends at h))) place-is (carried at h (s .framing .crc) rest) (there at h rest))
 
             last-one :
                 lastAt at ≡ true →
-                receivedAll (withStream d slot s) number slot bytes ((fpduAt at ++ rest) ∷ []) ≡ outcomeAt s at bytes (fpduAt at ∷ [])
+                receivedAll (withMeter (withStream d slot s) m) number slot bytes ((fpduAt at ++ rest) ∷ []) ≡ outcomeAt s m at bytes (fpduAt at ∷ [])
             unfolding receivedAll answersOf
-            last-one e = one [] ∙ outcome-path refl refl (ap (put bytes (base + at)) (last-part (limit - 14) message at h e))
+            last-one e =
+                let all = last-part (limit - 14) message at h e in
+                one [] ∙ outcome-path refl (ap (λ (l : List ℕ). withMeter (withStream d slot s) (countedMeter m (length l))) all) (ap (put bytes (base + at)) all)
 
           in-part : lastAt at ≡ false → base + (at + sizeAt at) ≤ d .part .end - d .part .start
           in-part e =
@@ -168,12 +177,12 @@ module _
               omega (arith, piece-fits (limit - 14) message at h, c .above, c .below, z .0, z .1)
 
         pub write-received :
-            (s : Stream) (bytes : List ℕ) (inputs : List (List ℕ)) → readiness (s .phase) ≡ Ready → length bytes ≡ d .part .end - d .part .start →
+            (s : Stream) (m : Meter) (bytes : List ℕ) (inputs : List (List ℕ)) → readiness (s .phase) ≡ Ready → length bytes ≡ d .part .end - d .part .start →
             Begin inputs (fpdusFrom (suc (length message)) 0 false) →
-            receivedAll (withStream d slot s) number slot bytes inputs ≡ outcomeAt s 0 bytes (fpdusFrom (suc (length message)) 0 false)
-        write-received s bytes inputs ready whole b =
+            receivedAll (withMeter (withStream d slot s) m) number slot bytes inputs ≡ outcomeAt s m 0 bytes (fpdusFrom (suc (length message)) 0 false)
+        write-received s m bytes inputs ready whole b =
             received (limit - 14) room message fpduAt fpdusFrom first-of none-after d number slot
             (λ (s : Stream) (at : ℕ). readiness (s .phase) ≡ Ready) (λ (s : Stream) (at : ℕ). s) (λ (s : Stream). NoEvent) (λ (s : Stream). withStream d slot s) (λ (s : Stream). base)
-            (λ s at bytes rest h u whole e. last-one at h s u bytes rest whole e) (λ s at bytes rest h u whole e inputs. one at h s u bytes rest whole inputs)
+            (λ s m at bytes rest h u whole e. last-one at h s m u bytes rest whole e) (λ s m at bytes rest h u whole e inputs. one at h s m u bytes rest whole inputs)
             (λ s at h u e. record { inv = u; event-same = refl; final-same = refl; base-same = refl; fits = in-part at h e })
-            (suc (length message)) 0 s bytes inputs (omega arith) (omega arith) ready whole b
+            (suc (length message)) 0 s m bytes inputs (omega arith) (omega arith) ready whole b

@@ -14,8 +14,9 @@ use Rattle.rdmap.specs.Message.{takesStag}
 use Rattle.rdmap.specs.Stream.{sentOn}
 use Rattle.rdmap.specs.declared.message.Invalidate.{Invalidate}
 use Rattle.rdmap.specs.declared.message.Invalidate.the-variants.{NoStag, Stag}
+use Rattle.meter.specs.Gauge.{countedMeter}
 use Rattle.domain.specs.Parts.{killed}
-use Rattle.domain.specs.Domain.{streamAt, domainReceived, domainReceivedBytes}
+use Rattle.domain.specs.Domain.{streamAt, withMeter, domainReceived, domainReceivedBytes}
 use Rattle.domain.specs.declared.Domain.{Domain}
 use Rattle.domain.specs.declared.Event.{Event}
 use Rattle.domain.specs.declared.Event.the-variants.{NoEvent, Sent, SentInvalidating, Terminated}
@@ -87,13 +88,19 @@ answersOf e (f ∷ fs) = Taken (length f) (eventThen e fs) ∷ answersOf e fs
 abbrev pub invalidates : ℕ → ℕ → Invalidate
 invalidates opcode stag = pick (takesStag opcode) (Stag (slotNamed stag) stag) NoStag
 
--- the domain after a Send: the MSN has risen by one, the buffer is gone, nothing is under way, and the window that it invalidates is dead
-abbrev pub sentDomain : Domain → ℕ → Invalidate → Domain
-sentDomain d slot inv = record {
+-- the domain after a Send of len bytes: the MSN has risen by one, the buffer is gone, nothing is under way, the window that it
+-- invalidates is dead, and its bytes are counted
+abbrev pub sentDomain : Domain → ℕ → Invalidate → ℕ → Domain
+sentDomain d slot inv len = record {
   part = d .part;
   windows = killed inv (d .windows);
   streams = set (d .streams) slot (sentOn (streamAt d slot));
+  meter = countedMeter (d .meter) len;
 }
+
+-- the domain after a Write of len bytes: they are counted
+abbrev pub writtenDomain : Domain → ℕ → Domain
+writtenDomain d len = withMeter d (countedMeter (d .meter) len)
 
 -- the events of some answers
 abbrev pub withEvent : Event → List Event → List Event

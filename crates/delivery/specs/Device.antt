@@ -13,7 +13,7 @@ use Rattle.domain.specs.declared.Domain.{Domain}
 use Rattle.domain.specs.declared.Event.the-variants.{NoEvent}
 use Rattle.rnic.specs.Rnic.{domainAt, withDomain, bytesOf, rnicReceived, rnicReceivedStore}
 use Rattle.rnic.specs.declared.Rnic.{Rnic}
-use Rattle.delivery.specs.Delivery.{payloads, answersOf, eventsOf, invalidates, sentDomain}
+use Rattle.delivery.specs.Delivery.{payloads, answersOf, eventsOf, invalidates, sentDomain, writtenDomain}
 use Rattle.delivery.specs.Promise.{SendRoom, WriteRoom, Placed, bufferOf, windowOf, eventOf}
 
 -- the answers in their order, and the device and the store after the last
@@ -62,7 +62,7 @@ pub record DeviceSendDelivered (b : Rnic) (n : ℕ) (mem : List ℕ) (inputs fpd
   -- it stands in the buffer, and no other byte of the store is changed
   pub placed : Placed mem (r .store) (bufferOf (ownerOf b n) (n % 4) .start) message
   -- the whole device afterwards: of the stream's domain what a Send does, and every other domain is as it was
-  pub rnic : r .rnic ≡ withDomain b (n / 4) (sentDomain (ownerOf b n) (n % 4) (invalidates opcode stag))
+  pub rnic : r .rnic ≡ withDomain b (n / 4) (sentDomain (ownerOf b n) (n % 4) (invalidates opcode stag) (length message))
   pub others : (i : ℕ) → i ≢ n / 4 → domainAt (r .rnic) i ≡ domainAt b i
   pub msn : streamAt (ownerOf (r .rnic) n) (n % 4) .sends .msn ≡ nextMsn (streamAt (ownerOf b n) (n % 4) .sends .msn)
   pub dead : takesStag opcode ≡ true → windowOf (ownerOf (r .rnic) n) stag .live ≡ false
@@ -75,5 +75,6 @@ pub record DeviceWriteDelivered (b : Rnic) (n : ℕ) (mem : List ℕ) (inputs fp
   -- it stands at its place in the window, and no other byte of the store is changed
   pub placed : 0 < length message → Placed mem (r .store) (windowOf (ownerOf b n) stag .place + (to - windowOf (ownerOf b n) stag .base)) message
   pub empty : length message ≡ 0 → r .store ≡ mem
-  -- the device is as it was
-  pub rnic : r .rnic ≡ b
+  -- the device is as it was, but that the message's bytes are counted, of the stream's domain
+  pub rnic : r .rnic ≡ withDomain b (n / 4) (writtenDomain (ownerOf b n) (length message))
+  pub others : (i : ℕ) → i ≢ n / 4 → domainAt (r .rnic) i ≡ domainAt b i

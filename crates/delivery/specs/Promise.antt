@@ -20,7 +20,7 @@ use Rattle.domain.specs.Parts.{sentEvent}
 use Rattle.domain.specs.declared.Domain.{Domain}
 use Rattle.domain.specs.declared.Event.{Event}
 use Rattle.domain.specs.declared.Event.the-variants.{NoEvent}
-use Rattle.delivery.specs.Delivery.{Outcome, payloads, answersOf, eventsOf, invalidates, sentDomain}
+use Rattle.delivery.specs.Delivery.{Outcome, payloads, answersOf, eventsOf, invalidates, sentDomain, writtenDomain}
 
 -- ---- what is needed
 
@@ -93,7 +93,7 @@ pub record SendDelivered (d : Domain) (slot : ℕ) (bytes : List ℕ) (inputs fp
   -- it stands in the buffer, and no other byte is changed
   pub placed : Placed bytes (r .bytes) (bufferOf d slot .start - d .part .start) message
   -- the whole domain afterwards
-  pub domain : r .domain ≡ sentDomain d slot (invalidates opcode stag)
+  pub domain : r .domain ≡ sentDomain d slot (invalidates opcode stag) (length message)
   -- of it, the MSN, and the window that it invalidates
   pub msn : streamAt (r .domain) slot .sends .msn ≡ nextMsn (streamAt d slot .sends .msn)
   pub dead : takesStag opcode ≡ true → windowOf (r .domain) stag .live ≡ false
@@ -106,5 +106,5 @@ pub record WriteDelivered (d : Domain) (slot : ℕ) (bytes : List ℕ) (inputs f
   -- it stands at its place in the window, and no other byte is changed
   pub placed : 0 < length message → Placed bytes (r .bytes) (windowOf d stag .place + (to - windowOf d stag .base) - d .part .start) message
   pub empty : length message ≡ 0 → r .bytes ≡ bytes
-  -- the domain is as it was
-  pub domain : r .domain ≡ d
+  -- the domain is as it was, but that the message's bytes are counted
+  pub domain : r .domain ≡ writtenDomain d (length message)

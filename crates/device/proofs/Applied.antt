@@ -31,11 +31,13 @@ use Rattle.rdmap.specs.declared.read.Reads.{Reads}
 use Rattle.rdmap.specs.declared.sends.Sends.{Sends}
 use Rattle.rdmap.specs.declared.stream.Stream.{Stream}
 use Rattle.rdmap.specs.declared.terminates.Terminates.{Terminates}
-use Rattle.domain.specs.Domain.{noStream, streamAt, withStream, withWindows}
-use Rattle.domain.specs.Parts.{killed, sentEvent, partsApplied, placedFrom, appliedBytes, taggedVerdict}
+use Rattle.ddp.specs.declared.segment.SegmentRead.{SegmentRead}
+use Rattle.domain.specs.Domain.{noStream, streamAt, withStream, withWindows, withMeter, segmentCount, meterBy}
+use Rattle.domain.specs.Parts.{lifted, killed, sentEvent, partsApplied, placedFrom, appliedBytes, taggedVerdict}
 use Rattle.domain.specs.declared.Answer.{Answer}
 use Rattle.domain.specs.declared.Answer.the-variants.{Taken, Ended}
 use Rattle.domain.specs.declared.Domain.{Domain}
+use Rattle.domain.specs.declared.parts.PartsReceived.{PartsReceived}
 use Rattle.domain.specs.declared.Event.the-variants.{NoEvent, Terminated}
 use Rattle.rnic.specs.Rnic.{noDomain, domainAt, withDomain}
 use Rattle.rnic.specs.declared.Rnic.{Rnic}
@@ -43,7 +45,7 @@ use Rattle.block.specs.Stream.{loadedSends, loadedReads, loadedTerminates}
 use Rattle.block.specs.Device.{loadedDomain, rnicAt}
 use Rattle.block.specs.Exchange.{streamOf, withStreamOf, withTerminates}
 use Rattle.block.proofs.Stored.{domain-at}
-use Rattle.device.specs.Lifted.{liftedOf, OfTagged}
+use Rattle.device.specs.Lifted.{liftedOf, countedOf, OfTagged}
 use Rattle.device.proofs.Slots.{stream-kept, sends-of, reads-of, terminates-of}
 
 -- ---- two changes, one after the other
@@ -72,7 +74,7 @@ module _ (w v : List ℕ) (d j : ℕ) (hd : d < 4) (hj : j < 4) (x : Stream) (fi
       let own = domainAt (rnicAt w) d in
       let put : streamAt (withStream own j x) j ≡ x = getD-set-same (own .streams) j x noStream (omega (arith, four-streams w d hd)) in
       entry-again w v d hd (withStream own j x) first (λ e. withStream e j (f (streamAt e j)))
-      ∙ ap (λ (s : List Stream). withDomain (rnicAt w) d (record { part = own .part; windows = own .windows; streams = s }))
+      ∙ ap (λ (s : List Stream). withDomain (rnicAt w) d (record { part = own .part; windows = own .windows; streams = s; meter = own .meter }))
       (set-set (own .streams) j x (f (streamAt (withStream own j x) j)) ∙ ap (λ (s : Stream). set (own .streams) j (f s)) put)
 
 -- ---- a verdict
@@ -133,6 +135,22 @@ module _ (w : List ℕ) (d j : ℕ) (hd : d < 4) (hj : j < 4) (total from : ℕ)
         ∙ ap (λ (q : Terminates). withStreamOf b d j (withTerminates (inPhase s (phaseOf 3)) (risenTerminates q))) (sym (terminates-of w d j hd hj)),
     refl,
   )
+
+-- ---- what a taken segment placed is counted
+
+pub counted-then :
+    (w v u : List ℕ) (d j : ℕ) → d < 4 → (r : PartsReceived) (x : SegmentRead) → rnicAt v ≡ liftedOf (rnicAt w) d j r →
+    (a : Answer) → a ≡ r .answer → (placed : ℕ) → placed ≡ segmentCount x →
+    rnicAt u ≡ withDomain (rnicAt v) d (withMeter (domainAt (rnicAt v) d) (meterBy a placed (domainAt (rnicAt v) d .meter))) →
+    rnicAt u ≡ countedOf (rnicAt w) d j x r
+counted-then w v u d j hd r x is a e placed n then =
+    then
+    ∙ entry-again w v d hd (lifted (domainAt (rnicAt w) d) j r .domain) is (λ y. withMeter y (meterBy a placed (y .meter)))
+    ∙ (λ i. withDomain (rnicAt w) d (withMeter (lifted (domainAt (rnicAt w) d) j r .domain) (meterBy (e i) (n i) (domainAt (rnicAt w) d .meter))))
+
+-- and where the stream ended nothing is
+pub ended-uncounted : (b : Rnic) (d j : ℕ) (r : PartsReceived) (x : SegmentRead) (q : Refusal) → Ended q ≡ r .answer → liftedOf b d j r ≡ countedOf b d j x r
+ended-uncounted b d j r x q e i = withDomain b d (withMeter (lifted (domainAt b d) j r .domain) (meterBy (e i) (segmentCount x) (domainAt b d .meter)))
 
 -- ---- a tagged segment is refused, empty or written
 

@@ -20,7 +20,8 @@ use Rattle.rdmap.specs.declared.framing.Framing.{Framing}
 use Rattle.rdmap.specs.declared.phase.Readiness.{Readiness}
 use Rattle.rdmap.specs.declared.phase.Readiness.the-variants.{Ready, NotReady}
 use Rattle.rdmap.specs.declared.stream.Stream.{Stream}
-use Rattle.domain.specs.Domain.{noStream, streamAt, withStream, domainReceived, domainReceivedBytes}
+use Rattle.ddp.specs.declared.segment.SegmentRead.{SegmentRead}
+use Rattle.domain.specs.Domain.{noStream, streamAt, withStream, segmentCount, meterBy, metered, meteredOf, domainReceived, domainReceivedBytes}
 use Rattle.domain.specs.Parts.{partsAnswered, partsJudged, partsPlaced, partsUnchanged, partsWhen, partsBytesWhen, partsReceived, partsReceivedBytes, killed, lifted}
 use Rattle.domain.specs.declared.Answer.{Answer}
 use Rattle.domain.specs.declared.Answer.the-variants.{Wait, Taken, Ended, Refused}
@@ -34,14 +35,14 @@ use Rattle.holding.specs.declared.gather.Gathered.{Gathered}
 use Rattle.holding.specs.declared.gather.Gathered.the-variants.{Short, Enough}
 use Rattle.holding.proofs.Gathered.{room-enough}
 use Rattle.holding.proofs.Held.{shut-phase, ready-phase}
-use Rattle.holding.proofs.Pending.{Decided, needed-bounds, short-waits, enough-judges, enough-own, waits-short, decided-enough, never-refused}
+use Rattle.holding.proofs.Pending.{enough-read, Decided, needed-bounds, short-waits, enough-judges, enough-own, waits-short, decided-enough, never-refused}
 use Rattle.holding.proofs.Rooms.{room-fresh}
 use Rattle.rnic.specs.Rnic.{domainAt, withDomain}
 use Rattle.rnic.specs.declared.Rnic.{Rnic}
 use Rattle.block.specs.Stream.{loadedPhase, loadedFraming}
 use Rattle.block.specs.Device.{rnicAt}
 use Rattle.block.specs.Exchange.{streamOf, withStreamOf}
-use Rattle.device.specs.Lifted.{liftedOf, partsReceives, partsReceivesBytes, heldIn, offeredOf, offeredBytesOf, offeredRoomOf, offerAnswerOf}
+use Rattle.device.specs.Lifted.{countedOf, receivesRnicOf, partsReceives, partsReceivesBytes, heldIn, offeredOf, offeredRnicOf, offeredBytesOf, offeredRoomOf, offerAnswerOf}
 use Rattle.device.proofs.Applied.{entry-put, entry-again, four-streams}
 use Rattle.calls.specs.Words.{words, refusedWords, answerWords, tookWords, offerWords, offeredWords}
 use Rattle.calls.proofs.Offered.{offered-words, waitOf, kind-waits}
@@ -52,19 +53,22 @@ use Rattle.device.proofs.Slots.{stream-kept, phase-of, framing-of}
 
 abbrev pub Lifts : Domain → ℕ → ℕ → List ℕ → Type 0
 Lifts d number slot input =
-    (lifted d slot (partsReceives (d .windows) number (streamAt d slot) input) ≡ domainReceives d number slot input)
+    (meteredOf (segmentRead (streamAt d slot .framing .crc) input) (lifted d slot (partsReceives (d .windows) number (streamAt d slot) input)) ≡ domainReceives d number slot input)
     × ((mem : List ℕ) → partsReceivesBytes (d .part) (d .windows) number (streamAt d slot) input mem ≡ domainReceivesBytes d number slot input mem)
 
 pub receives-lifted : (d : Domain) (number slot : ℕ) (input : List ℕ) → slot < 4 → Lifts d number slot input
 unfolding partsReceives partsReceivesBytes domainReceives domainReceivesBytes domainReceived domainReceivedBytes
 receives-lifted d number slot input l = go (holds (streamAt d slot)) (leb slot 3) (le-leb slot 3 (omega (arith, l)))
   where
+    x : SegmentRead
+    x = segmentRead (streamAt d slot .framing .crc) input
+
     go :
         (t u : Bool) → u ≡ true →
-        (lifted d slot (pick t (partsUnchanged (streamAt d slot) (Refused 16)) (partsReceived (d .windows) number (streamAt d slot) input))
-        ≡ pick (both u t) (record { answer = Refused 16; domain = d }) (pick u (lifted d slot (partsReceived (d .windows) number (streamAt d slot) input)) (record { answer = Refused 1; domain = d })))
+        (meteredOf x (lifted d slot (pick t (partsUnchanged (streamAt d slot) (Refused 16)) (partsReceived (d .windows) number (streamAt d slot) input)))
+        ≡ pick (both u t) (record { answer = Refused 16; domain = d }) (pick u (meteredOf x (lifted d slot (partsReceived (d .windows) number (streamAt d slot) input))) (record { answer = Refused 1; domain = d })))
         × ((mem : List ℕ) → pick t mem (partsReceivedBytes (d .part) (d .windows) number (streamAt d slot) input mem) ≡ pick (both u t) mem (pick u (partsReceivedBytes (d .part) (d .windows) number (streamAt d slot) input mem) mem))
-    go true true e = ((λ i. record { answer = Refused 16; domain = record { part = d .part; windows = d .windows; streams = set-getD (d .streams) slot noStream i } }), λ mem. refl)
+    go true true e = ((λ i. record { answer = Refused 16; domain = record { part = d .part; windows = d .windows; streams = set-getD (d .streams) slot noStream i; meter = d .meter } }), λ mem. refl)
     go false true e = (refl, λ mem. refl)
     go t false e = absurd (let no : _≡_ {A = ℕ} 0 1 = cc in omega arith)
 
@@ -84,7 +88,7 @@ module _ (w : List ℕ) (d j : ℕ) (hd : d < 4) (hj : j < 4) (p : Part) (input 
   abbrev pub ReceivesAs : List ℕ → List ℕ → List ℕ → Type 0
   ReceivesAs l v after =
       (l ≡ answerWords (partsReceives ws d s input .answer))
-      × (rnicAt v ≡ liftedOf b d j (partsReceives ws d s input))
+      × (rnicAt v ≡ receivesRnicOf b d j input)
       × (after ≡ partsReceivesBytes p ws d s input mem)
 
   pub receives-none : {l after : List ℕ} (v : List ℕ) → holds s ≡ false → ReceivedAs w d j p input mem l v after → ReceivesAs l v after
@@ -112,7 +116,7 @@ module _ (w : List ℕ) (d j : ℕ) (hd : d < 4) (hj : j < 4) (p : Part) (input 
     abbrev pub OfferedAs : OfferAnswer → List ℕ → List ℕ → List ℕ → Type 0
     OfferedAs a v after r =
         (a ≡ offerAnswerOf b d j room input)
-        × (rnicAt v ≡ liftedOf b d j (offeredOf b d j room input))
+        × (rnicAt v ≡ offeredRnicOf b d j room input)
         × (after ≡ offeredBytesOf b d j p room input mem)
         × (r ≡ offeredRoomOf b d j room input)
 
@@ -120,7 +124,7 @@ module _ (w : List ℕ) (d j : ℕ) (hd : d < 4) (hj : j < 4) (p : Part) (input 
     abbrev pub OfferedWords : List ℕ → List ℕ → List ℕ → List ℕ → Type 0
     OfferedWords l v after r =
         (l ≡ offerWords (offerAnswerOf b d j room input))
-        × (rnicAt v ≡ liftedOf b d j (offeredOf b d j room input))
+        × (rnicAt v ≡ offeredRnicOf b d j room input)
         × (after ≡ offeredBytesOf b d j p room input mem)
         × (r ≡ offeredRoomOf b d j room input)
 
@@ -129,12 +133,12 @@ module _ (w : List ℕ) (d j : ℕ) (hd : d < 4) (hj : j < 4) (p : Part) (input 
 
     -- what the offer makes of the stream is x, the domain's bytes y, and the room z
     as-told :
-        {a : OfferAnswer} {after r : List ℕ} (v : List ℕ) (x : PartsReceived) → offeredOf b d j room input ≡ x → a ≡ offerAnswer (length h) (length input) (x .answer) → rnicAt v ≡ liftedOf b d j x →
+        {a : OfferAnswer} {after r : List ℕ} (v : List ℕ) (x : PartsReceived) → offeredOf b d j room input ≡ x → a ≡ offerAnswer (length h) (length input) (x .answer) → rnicAt v ≡ countedOf b d j (segmentRead (s .framing .crc) (h ++ input)) x →
         (y : List ℕ) → offeredBytesOf b d j p room input mem ≡ y → after ≡ y →
         (z : List ℕ) → offeredRoomOf b d j room input ≡ z → r ≡ z → OfferedAs a v after r
     as-told v x e f g y e′ f′ z e″ f″ = (
       f ∙ sym (ap (λ (r : PartsReceived). offerAnswer (length h) (length input) (r .answer)) e),
-      g ∙ sym (ap (λ (r : PartsReceived). liftedOf b d j r) e),
+      g ∙ sym (ap (λ (r : PartsReceived). countedOf b d j (segmentRead (s .framing .crc) (h ++ input)) r) e),
       f′ ∙ sym e′,
       f″ ∙ sym e″,
     )
@@ -199,7 +203,7 @@ module _ (w : List ℕ) (d j : ℕ) (hd : d < 4) (hj : j < 4) (p : Part) (input 
           offered-is ∙ decided-held (length h + length input) x (x .answer) refl (enough-judges p ws d (holding s 0) (s .framing .crc) mem (h ++ input) e)
 
       pub taken-enough :
-          isShort (h ++ input) ≡ false → (a : Answer) (v after r : List ℕ) → a ≡ core (holding s 0) (h ++ input) .answer → rnicAt v ≡ liftedOf b d j (core (holding s 0) (h ++ input)) →
+          isShort (h ++ input) ≡ false → (a : Answer) (v after r : List ℕ) → a ≡ core (holding s 0) (h ++ input) .answer → rnicAt v ≡ countedOf b d j (segmentRead (s .framing .crc) (h ++ input)) (core (holding s 0) (h ++ input)) →
           after ≡ coreBytes (holding s 0) (h ++ input) → r ≡ roomAfter h input room → OfferedAs (offerAnswer (length h) (length input) a) v after r
       taken-enough e a v after r f g k l =
           as-told v (core (holding s 0) (h ++ input)) (enough-offered e) (ap (offerAnswer (length h) (length input)) f) g
@@ -243,7 +247,7 @@ module _ (w : List ℕ) (d j : ℕ) (hd : d < 4) (hj : j < 4) (p : Part) (input 
               let enough : isShort (h ++ input) ≡ false = ap isShort pending ∙ decided-enough p ws d s (s .framing .crc) mem input k in
               let none-held : 0 ≡ length h = sym (ap length no-bytes) in
               subst (λ (n : ℕ). OfferedAs (offerAnswer n (length input) a) v after room) (sym none-held)
-              (taken-enough enough a v after room (sym (ap (λ (x : PartsReceived). x .answer) core-same)) (told .1 ∙ sym (ap (λ (x : PartsReceived). liftedOf b d j x) core-same)) (told .2 ∙ sym bytes-same)
+              (taken-enough enough a v after room (sym (ap (λ (x : PartsReceived). x .answer) core-same)) (told .1 ∙ sym (λ i. countedOf b d j (segmentRead (s .framing .crc) (pending i)) (core-same i))) (told .2 ∙ sym bytes-same)
               (room-fresh h input (length h) (neededOf (h ++ input)) refl refl (enough-long enough) (sym none-held) room))
             where
               enough-long : isShort (h ++ input) ≡ false → neededOf (h ++ input) ≤ length h + length input
@@ -275,7 +279,7 @@ module _ (w : List ℕ) (d j : ℕ) (hd : d < 4) (hj : j < 4) (p : Part) (input 
               let waits : a ≡ Wait (waitOf a) = waits-told five in
               let short₀ : isShort input ≡ true = waits-short p ws d s (s .framing .crc) mem input (waitOf a) waits in
               let short : isShort (h ++ input) ≡ true = ap isShort pending ∙ short₀ in
-              let still : rnicAt v ≡ b = told .1 ∙ ap (λ (x : PartsReceived). liftedOf b d j x) (short-waits p ws d s (s .framing .crc) mem input short₀ .0) ∙ stream-kept b d j in
+              let still : rnicAt v ≡ b = told .1 ∙ ap (λ (x : PartsReceived). countedOf b d j (segmentRead (s .framing .crc) input) x) (short-waits p ws d s (s .framing .crc) mem input short₀ .0) ∙ stream-kept b d j in
               let front : take (f .held) room ≡ h = ap (λ (x : Framing). take (x .held) room) framed in
               let got : g ≡ Short (length (h ++ input)) = is ∙ ap (λ (l : List ℕ). gathered l input) front ∙ ap (λ (t : Bool). pick t (Short (length (h ++ input))) (Enough (neededOf (h ++ input)))) short in
               as-words u (fresh-words (Kept (length input)) (ap (offerAnswer 0 (length input)) waits))
@@ -350,10 +354,10 @@ module _ (w : List ℕ) (d j : ℕ) (hd : d < 4) (hj : j < 4) (p : Part) (input 
           stream-then : streamOf (rnicAt v) d j ≡ holding s 0
           stream-then = ap (λ (x : Domain). streamAt x j) entry ∙ getD-set-same (own .streams) j (holding s 0) noStream (omega (arith, four-streams w d hd))
 
-          lifted-then : (x : PartsReceived) → liftedOf (rnicAt v) d j x ≡ liftedOf b d j x
-          lifted-then x =
-              entry-again w v d hd (withStream own j (holding s 0)) emptied (λ y. lifted y j x .domain)
-              ∙ (λ i. withDomain b d (record { part = own .part; windows = killed (x .invalidate) (own .windows); streams = set-set (own .streams) j (holding s 0) (x .stream) i }))
+          counted-held : (y : SegmentRead) (x : PartsReceived) → countedOf (rnicAt v) d j y x ≡ countedOf b d j y x
+          counted-held y x =
+              entry-again w v d hd (withStream own j (holding s 0)) emptied (λ z. metered (x .answer) y (lifted z j x .domain))
+              ∙ (λ i. withDomain b d (record { part = own .part; windows = killed (x .invalidate) (own .windows); streams = set-set (own .streams) j (holding s 0) (x .stream) i; meter = meterBy (x .answer) (segmentCount y) (own .meter) }))
 
           pub held-taken :
               (l u after : List ℕ) → FirstWords v d j p (take n r) mem (segmentRead (f .crc) (take n r)) l u after →
@@ -372,6 +376,6 @@ module _ (w : List ℕ) (d j : ℕ) (hd : d < 4) (hj : j < 4) (p : Part) (input 
               as-words u
               (ap (λ (t : List ℕ). offeredWords t (length h) (length input)) (seen .0 ∙ ap (λ (x : PartsReceived). answerWords (x .answer)) told) ∙ offered-words a (length h) (length input))
               (taken-enough enough a u after r refl
-              (seen .1 ∙ lifted-then x ∙ ap (λ (x : PartsReceived). liftedOf b d j x) told)
+              (seen .1 ∙ counted-held (segmentRead (s .framing .crc) q) x ∙ (λ i. countedOf b d j (enough-read (h ++ input) (s .framing .crc) enough i) (told i)))
               (seen .2 ∙ placed)
               put-held)

@@ -21,7 +21,7 @@ use Rattle.rnic.specs.declared.Rnic.{Rnic}
 use Rattle.block.specs.Stream.{loadedPhase, loadedFraming}
 use Rattle.block.specs.Device.{rnicAt}
 use Rattle.block.specs.Exchange.{streamOf}
-use Rattle.device.specs.Lifted.{liftedOf}
+use Rattle.device.specs.Lifted.{countedOf}
 use Rattle.device.proofs.Slots.{stream-kept, phase-of, framing-of}
 
 module _ (w : List ℕ) (d j : ℕ) (p : Part) (input mem : List ℕ) where
@@ -38,7 +38,7 @@ module _ (w : List ℕ) (d j : ℕ) (p : Part) (input mem : List ℕ) where
   abbrev pub FirstAs : SegmentRead → Answer → List ℕ → List ℕ → Type 0
   FirstAs x a v after =
       (a ≡ partsAnswered s (partsJudged ws d s input x) .answer)
-      × (rnicAt v ≡ liftedOf b d j (partsAnswered s (partsJudged ws d s input x)))
+      × (rnicAt v ≡ countedOf b d j x (partsAnswered s (partsJudged ws d s input x)))
       × (after ≡ partsPlaced p ws d s input mem x)
 
   pub first-told : {x y : SegmentRead} {a : Answer} {after : List ℕ} (v : List ℕ) → x ≡ y → FirstAs x a v after → FirstAs y a v after
@@ -48,14 +48,14 @@ module _ (w : List ℕ) (d j : ℕ) (p : Part) (input mem : List ℕ) where
   abbrev pub FirstWords : SegmentRead → List ℕ → List ℕ → List ℕ → Type 0
   FirstWords x l v after =
       (l ≡ answerWords (partsAnswered s (partsJudged ws d s input x) .answer))
-      × (rnicAt v ≡ liftedOf b d j (partsAnswered s (partsJudged ws d s input x)))
+      × (rnicAt v ≡ countedOf b d j x (partsAnswered s (partsJudged ws d s input x)))
       × (after ≡ partsPlaced p ws d s input mem x)
 
   -- and of the whole call
   abbrev pub ReceivedAs : List ℕ → List ℕ → List ℕ → Type 0
   ReceivedAs l v after =
       (l ≡ answerWords (partsReceived ws d s input .answer))
-      × (rnicAt v ≡ liftedOf b d j (partsReceived ws d s input))
+      × (rnicAt v ≡ countedOf b d j (segmentRead (s .framing .crc) input) (partsReceived ws d s input))
       × (after ≡ partsReceivedBytes p ws d s input mem)
 
   module _ (hd : d < 4) (hj : j < 4) where
@@ -70,7 +70,7 @@ module _ (w : List ℕ) (d j : ℕ) (p : Part) (input mem : List ℕ) where
     pub not-ready : (k : ℕ) → readiness (loadedPhase w d j) ≡ NotReady k → ReceivedAs (refusedWords k) w mem
     not-ready k e =
         let t = when (NotReady k) e in
-        (sym (ap (λ (x : PartsReceived). answerWords (x .answer)) t), sym (ap (λ (x : PartsReceived). liftedOf b d j x) t ∙ stream-kept b d j), sym (bytes-when (NotReady k) e))
+        (sym (ap (λ (x : PartsReceived). answerWords (x .answer)) t), sym (ap (λ (x : PartsReceived). countedOf b d j (segmentRead (s .framing .crc) input) x) t ∙ stream-kept b d j), sym (bytes-when (NotReady k) e))
 
     pub is-ready : {l after : List ℕ} (v : List ℕ) (f : Framing) → readiness (loadedPhase w d j) ≡ Ready → f ≡ loadedFraming w d j → FirstWords (segmentRead (f .crc) input) l v after → ReceivedAs l v after
     is-ready {l = l} {after = after} v f e g h =
@@ -78,6 +78,6 @@ module _ (w : List ℕ) (d j : ℕ) (p : Part) (input mem : List ℕ) where
         let first : FirstWords (segmentRead (s .framing .crc) input) l v after = subst (λ (z : SegmentRead). FirstWords z l v after) crc h in
         let t = when Ready e in (
           first .0 ∙ sym (ap (λ (x : PartsReceived). answerWords (x .answer)) t),
-          first .1 ∙ sym (ap (λ (x : PartsReceived). liftedOf b d j x) t),
+          first .1 ∙ sym (ap (λ (x : PartsReceived). countedOf b d j (segmentRead (s .framing .crc) input) x) t),
           first .2 ∙ sym (bytes-when Ready e),
         )

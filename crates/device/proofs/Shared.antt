@@ -232,7 +232,7 @@ module _ (w : List ℕ) (d i : ℕ) (hd : d < 4) (hi : i < 16) (key base len pla
 
   window-same : withWindowOf (rnicAt w) d i before ≡ rnicAt w
   window-same =
-      (λ k. withDomain (rnicAt w) d (record { part = mine .part; windows = set-getD (mine .windows) i noWindow k; streams = mine .streams }))
+      (λ k. withDomain (rnicAt w) d (record { part = mine .part; windows = set-getD (mine .windows) i noWindow k; streams = mine .streams; meter = mine .meter }))
       ∙ domain-kept (rnicAt w) d
 
   -- what registering makes of the window

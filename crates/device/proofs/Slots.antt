@@ -37,7 +37,7 @@ domain-kept b d = λ i. record { len = b .len; domains = set-getD (b .domains) d
 
 pub stream-kept : (b : Rnic) (d j : ℕ) → withStreamOf b d j (streamOf b d j) ≡ b
 stream-kept b d j =
-    (λ i. withDomain b d (record { part = domainAt b d .part; windows = domainAt b d .windows; streams = set-getD (domainAt b d .streams) j noStream i }))
+    (λ i. withDomain b d (record { part = domainAt b d .part; windows = domainAt b d .windows; streams = set-getD (domainAt b d .streams) j noStream i; meter = domainAt b d .meter }))
     ∙ domain-kept b d
 
 module _ (w : List ℕ) (d j : ℕ) (hd : d < 4) (hj : j < 4) where

@@ -1,10 +1,13 @@
 -- The device with what receive makes of a domain: `lifted` of the crate `domain`, put in the domain's entry.
 use Prim.Native.Nat.{ℕ}
-use mathlib.Core.List.{List}
+use mathlib.Core.List.{List, _++_}
 use lib.ListN.{length, take}
 use Rattle.wire.specs.Wire.{pick}
 use Rattle.memory.specs.declared.part.Part.{Part}
 use Rattle.rdmap.specs.declared.stream.Stream.{Stream}
+use Rattle.ddp.specs.Segment.{segmentRead}
+use Rattle.ddp.specs.declared.segment.SegmentRead.{SegmentRead}
+use Rattle.domain.specs.Domain.{metered}
 use Rattle.domain.specs.Parts.{lifted, partsUnchanged, partsReceived, partsReceivedBytes}
 use Rattle.domain.specs.declared.Answer.the-variants.{Refused}
 use Rattle.holding.specs.Offer.{holds, offerAnswer, partsOffered, partsOfferedBytes, streamRoom}
@@ -20,6 +23,10 @@ use Rattle.block.specs.Exchange.{withWindow, streamOf}
 
 abbrev pub liftedOf : Rnic → ℕ → ℕ → PartsReceived → Rnic
 liftedOf b d j r = withDomain b d (lifted (domainAt b d) j r .domain)
+
+-- the same, with the payload bytes of a taken Write or Send counted
+abbrev pub countedOf : Rnic → ℕ → ℕ → SegmentRead → PartsReceived → Rnic
+countedOf b d j x r = withDomain b d (metered (r .answer) x (lifted (domainAt b d) j r .domain))
 
 -- the window of a domain's slot, and the device with it exchanged
 abbrev pub windowOf : Rnic → ℕ → ℕ → Window
@@ -44,6 +51,10 @@ OfTagged (Terminate layer etype code) = ⊥
 unfoldable pub partsReceives : List Window → ℕ → Stream → List ℕ → PartsReceived
 partsReceives ws number s input = pick (holds s) (partsUnchanged s (Refused 16)) (partsReceived ws number s input)
 
+-- the device after it
+abbrev pub receivesRnicOf : Rnic → ℕ → ℕ → List ℕ → Rnic
+receivesRnicOf b d j input = countedOf b d j (segmentRead (streamOf b d j .framing .crc) input) (partsReceives (domainAt b d .windows) d (streamOf b d j) input)
+
 unfoldable pub partsReceivesBytes : Part → List Window → ℕ → Stream → List ℕ → List ℕ → List ℕ
 partsReceivesBytes p ws number s input bytes = pick (holds s) bytes (partsReceivedBytes p ws number s input bytes)
 
@@ -54,6 +65,11 @@ heldIn b d j room = take (streamOf b d j .framing .held) room
 -- an offer on that stream, and the domain's bytes and the room after it
 abbrev pub offeredOf : Rnic → ℕ → ℕ → List ℕ → List ℕ → PartsReceived
 offeredOf b d j room input = partsOffered (domainAt b d .windows) d (streamOf b d j) (heldIn b d j room) input
+
+-- the device after it
+abbrev pub offeredRnicOf : Rnic → ℕ → ℕ → List ℕ → List ℕ → Rnic
+offeredRnicOf b d j room input =
+    countedOf b d j (segmentRead (streamOf b d j .framing .crc) (heldIn b d j room ++ input)) (offeredOf b d j room input)
 
 abbrev pub offeredBytesOf : Rnic → ℕ → ℕ → Part → List ℕ → List ℕ → List ℕ → List ℕ
 offeredBytesOf b d j p room input bytes = partsOfferedBytes p (domainAt b d .windows) d (streamOf b d j) (heldIn b d j room) input bytes

@@ -28,7 +28,7 @@ use rdmap::phase::ended_by;
 use rdmap::phase::phase_of;
 
 // The window that a Send invalidated is dead.
-fn kill(words: &mut [u64; 933], domain: usize, which: Invalidate)
+fn kill(words: &mut [u64; 945], domain: usize, which: Invalidate)
     requires { ⌜ domain < 4 ⌝ }
     ensures { λ _. ⌜ rnicAt (now (words .exit)) ≡ withDomain (rnicAt (now (words .entry))) domain (withWindows (domainAt (rnicAt (now (words .entry))) domain) (killed which (domainAt (rnicAt (now (words .entry))) domain .windows))) ⌝ }
 {
@@ -43,7 +43,7 @@ fn kill(words: &mut [u64; 933], domain: usize, which: Invalidate)
 }
 
 // Ends the stream of a domain's slot by a refusal of the peer's bytes.
-pub(crate) fn end(words: &mut [u64; 933], domain: usize, slot: usize, refusal: Refusal) -> Answer
+pub(crate) fn end(words: &mut [u64; 945], domain: usize, slot: usize, refusal: Refusal) -> Answer
     requires { ⌜ (domain < 4) × (slot < 4) ⌝ }
     ensures { λ r. ⌜ (r ≡ Answer.Ended refusal) × (rnicAt (now (words .exit)) ≡ withStreamOf (rnicAt (now (words .entry))) domain slot (endedBy (streamOf (rnicAt (now (words .entry))) domain slot) refusal)) ⌝ }
 {
@@ -64,7 +64,7 @@ fn taken(total: usize) -> Answer
 // Does what a verdict on an untagged segment says with the stream of a domain's slot, and with the domain's
 // bytes, which start at from; and answers it.
 pub(crate) fn apply(
-    words: &mut [u64; 933],
+    words: &mut [u64; 945],
     domain: usize,
     slot: usize,
     total: usize,
@@ -127,7 +127,7 @@ pub(crate) fn apply(
 // The same for a tagged segment, which is refused, empty or written: apart from the rest, since it has to be
 // fast. The other arms are never reached.
 pub(crate) fn apply_tagged(
-    words: &mut [u64; 933],
+    words: &mut [u64; 945],
     domain: usize,
     slot: usize,
     total: usize,

@@ -23,7 +23,7 @@ use rdmap::message::judge_untagged_segment;
 use rdmap::message::stag_named;
 
 // What a queue of the stream of a domain's slot expects; head is that of its sends.
-fn queue_of(words: &[u64; 933], domain: usize, slot: usize, head: Head, qn: u32) -> Queue
+fn queue_of(words: &[u64; 945], domain: usize, slot: usize, head: Head, qn: u32) -> Queue
     requires { ⌜ (domain < 4) × (slot < 4) × (head ≡ headOf (streamOf (rnicAt (now words)) domain slot .sends)) ⌝ }
     ensures { λ r. ⌜ r ≡ queueOf (streamOf (rnicAt (now (words .entry))) domain slot) qn ⌝ }
 {
@@ -51,7 +51,7 @@ fn queue_of(words: &[u64; 933], domain: usize, slot: usize, head: Head, qn: u32)
 
 // Judges an untagged segment for the stream of a domain's slot.
 pub(crate) fn judge_untagged(
-    words: &[u64; 933],
+    words: &[u64; 945],
     domain: usize,
     slot: usize,
     h: UntaggedHeader,

@@ -5,6 +5,7 @@
 // (`rnicAt` of the crate `block`) what the by-value call of the crate `rnic` does. Any words are a device,
 // and no public function has a `requires`.
 mod apply;
+pub mod gauge;
 mod judge;
 pub mod offer;
 pub mod opening;

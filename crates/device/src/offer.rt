@@ -14,7 +14,7 @@ ghost use Rattle.holding.specs.Offer.{offerAnswer};
 ghost use Rattle.block.specs.Device.{rnicAt};
 ghost use Rattle.block.specs.Exchange.{streamOf, withStreamOf};
 ghost use Rattle.calls.specs.Words.{offerWords};
-ghost use Rattle.device.specs.Lifted.{liftedOf, offeredOf, offeredBytesOf, offeredRoomOf, offerAnswerOf};
+ghost use Rattle.device.specs.Lifted.{offeredRnicOf, offeredBytesOf, offeredRoomOf, offerAnswerOf};
 use crate::receive::first_words;
 use block::device::load_len;
 use block::device::load_part;
@@ -38,7 +38,7 @@ use rdmap::phase::Readiness;
 // Puts the bytes of an offer behind those that the stream of a domain's slot holds, and stores how many it
 // holds then: none where they are enough.
 fn hold(
-    words: &mut [u64; 933],
+    words: &mut [u64; 945],
     domain: usize,
     slot: usize,
     framing: Framing,
@@ -60,7 +60,7 @@ fn hold(
 // An offer to the open stream of a domain's slot that holds nothing: an FPDU is received where it lies, and
 // bytes that complete none are kept.
 fn offer_fresh(
-    words: &mut [u64; 933],
+    words: &mut [u64; 945],
     domain: usize,
     slot: usize,
     part: Part,
@@ -71,7 +71,7 @@ fn offer_fresh(
     answer: &mut [u64; 8],
 )
     requires { ⌜ (domain < 4) × (slot < 4) × (readiness (streamOf (rnicAt (now words)) domain slot .phase) ≡ Ready) × (framing ≡ streamOf (rnicAt (now words)) domain slot .framing) × (framing .held ≡ 0) ⌝ }
-    ensures { λ _. ⌜ (now (answer .exit) ≡ offerWords (offerAnswerOf (rnicAt (now (words .entry))) domain slot (now (room .entry)) (now (bytes .entry)))) × (rnicAt (now (words .exit)) ≡ liftedOf (rnicAt (now (words .entry))) domain slot (offeredOf (rnicAt (now (words .entry))) domain slot (now (room .entry)) (now (bytes .entry)))) × (now (store .exit) ≡ offeredBytesOf (rnicAt (now (words .entry))) domain slot part (now (room .entry)) (now (bytes .entry)) (now (store .entry))) × (now (room .exit) ≡ offeredRoomOf (rnicAt (now (words .entry))) domain slot (now (room .entry)) (now (bytes .entry))) ⌝ }
+    ensures { λ _. ⌜ (now (answer .exit) ≡ offerWords (offerAnswerOf (rnicAt (now (words .entry))) domain slot (now (room .entry)) (now (bytes .entry)))) × (rnicAt (now (words .exit)) ≡ offeredRnicOf (rnicAt (now (words .entry))) domain slot (now (room .entry)) (now (bytes .entry))) × (now (store .exit) ≡ offeredBytesOf (rnicAt (now (words .entry))) domain slot part (now (room .entry)) (now (bytes .entry)) (now (store .entry))) × (now (room .exit) ≡ offeredRoomOf (rnicAt (now (words .entry))) domain slot (now (room .entry)) (now (bytes .entry))) ⌝ }
 {
     first_words(words, domain, slot, part, framing.crc, store, bytes, answer);
     let kind = answer[0];
@@ -85,7 +85,7 @@ fn offer_fresh(
 // An offer to the open stream of a domain's slot that holds bytes: the FPDU is received from the room once
 // enough of it is there.
 fn offer_held(
-    words: &mut [u64; 933],
+    words: &mut [u64; 945],
     domain: usize,
     slot: usize,
     part: Part,
@@ -96,7 +96,7 @@ fn offer_held(
     answer: &mut [u64; 8],
 )
     requires { ⌜ (domain < 4) × (slot < 4) × (readiness (streamOf (rnicAt (now words)) domain slot .phase) ≡ Ready) × (framing ≡ streamOf (rnicAt (now words)) domain slot .framing) × (0 < framing .held) × (length (now room) ≡ roomBytes) ⌝ }
-    ensures { λ _. ⌜ (now (answer .exit) ≡ offerWords (offerAnswerOf (rnicAt (now (words .entry))) domain slot (now (room .entry)) (now (bytes .entry)))) × (rnicAt (now (words .exit)) ≡ liftedOf (rnicAt (now (words .entry))) domain slot (offeredOf (rnicAt (now (words .entry))) domain slot (now (room .entry)) (now (bytes .entry)))) × (now (store .exit) ≡ offeredBytesOf (rnicAt (now (words .entry))) domain slot part (now (room .entry)) (now (bytes .entry)) (now (store .entry))) × (now (room .exit) ≡ offeredRoomOf (rnicAt (now (words .entry))) domain slot (now (room .entry)) (now (bytes .entry))) ⌝ }
+    ensures { λ _. ⌜ (now (answer .exit) ≡ offerWords (offerAnswerOf (rnicAt (now (words .entry))) domain slot (now (room .entry)) (now (bytes .entry)))) × (rnicAt (now (words .exit)) ≡ offeredRnicOf (rnicAt (now (words .entry))) domain slot (now (room .entry)) (now (bytes .entry))) × (now (store .exit) ≡ offeredBytesOf (rnicAt (now (words .entry))) domain slot part (now (room .entry)) (now (bytes .entry)) (now (store .entry))) × (now (room .exit) ≡ offeredRoomOf (rnicAt (now (words .entry))) domain slot (now (room .entry)) (now (bytes .entry))) ⌝ }
 {
     let count = held_in(room, framing.held);
     match hold(words, domain, slot, framing, room, bytes) {
@@ -122,7 +122,7 @@ fn offer_held(
 
 // An offer to the stream of a domain's slot; the domain's bytes and the stream's room are lent.
 fn offer_slot(
-    words: &mut [u64; 933],
+    words: &mut [u64; 945],
     domain: usize,
     slot: usize,
     part: Part,
@@ -132,7 +132,7 @@ fn offer_slot(
     answer: &mut [u64; 8],
 )
     requires { ⌜ (domain < 4) × (slot < 4) × (length (now room) ≡ roomBytes) ⌝ }
-    ensures { λ _. ⌜ (now (answer .exit) ≡ offerWords (offerAnswerOf (rnicAt (now (words .entry))) domain slot (now (room .entry)) (now (bytes .entry)))) × (rnicAt (now (words .exit)) ≡ liftedOf (rnicAt (now (words .entry))) domain slot (offeredOf (rnicAt (now (words .entry))) domain slot (now (room .entry)) (now (bytes .entry)))) × (now (store .exit) ≡ offeredBytesOf (rnicAt (now (words .entry))) domain slot part (now (room .entry)) (now (bytes .entry)) (now (store .entry))) × (now (room .exit) ≡ offeredRoomOf (rnicAt (now (words .entry))) domain slot (now (room .entry)) (now (bytes .entry))) ⌝ }
+    ensures { λ _. ⌜ (now (answer .exit) ≡ offerWords (offerAnswerOf (rnicAt (now (words .entry))) domain slot (now (room .entry)) (now (bytes .entry)))) × (rnicAt (now (words .exit)) ≡ offeredRnicOf (rnicAt (now (words .entry))) domain slot (now (room .entry)) (now (bytes .entry))) × (now (store .exit) ≡ offeredBytesOf (rnicAt (now (words .entry))) domain slot part (now (room .entry)) (now (bytes .entry)) (now (store .entry))) × (now (room .exit) ≡ offeredRoomOf (rnicAt (now (words .entry))) domain slot (now (room .entry)) (now (bytes .entry))) ⌝ }
 {
     let phase = load_phase(words, domain, slot);
     match phase.ready() {
@@ -173,7 +173,7 @@ fn offer_slot(
 // An offer to a stream in range, with slices of the right length: the owner is lent its own part, and the
 // stream its own room.
 fn offer_owned(
-    words: &mut [u64; 933],
+    words: &mut [u64; 945],
     store: &mut [u8],
     rooms: &mut [u8],
     stream: u64,
@@ -208,7 +208,7 @@ fn offer_owned(
 
 // Offers bytes to a stream; the store and the rooms of all streams are lent.
 pub fn offer(
-    words: &mut [u64; 933],
+    words: &mut [u64; 945],
     store: &mut [u8],
     rooms: &mut [u8],
     stream: u64,
@@ -234,7 +234,7 @@ pub fn offer(
 }
 
 // How many bytes a stream holds; 0 of a number that is no stream's.
-pub fn held_count(words: &[u64; 933], stream: u64) -> u32
+pub fn held_count(words: &[u64; 945], stream: u64) -> u32
     ensures { λ r. ⌜ r ≡ heldCount (rnicAt (now (words .entry))) stream ⌝ }
 {
     if stream <= 15 {

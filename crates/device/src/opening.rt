@@ -11,7 +11,7 @@ use rnic::length_in_range;
 
 // Opens a device over a store of a length, with four parts, whatever the words were; the store is not touched.
 pub fn open(
-    words: &mut [u64; 933],
+    words: &mut [u64; 945],
     len: u64,
     s0: u64,
     e0: u64,

@@ -15,7 +15,7 @@ use domain::sharing::has_write;
 use domain::sharing::window_shares;
 
 // Whether one of a domain's live windows that a peer may write shares a byte with the len bytes from place.
-fn windows_share(words: &[u64; 933], domain: usize, place: u64, len: u64) -> bool
+fn windows_share(words: &[u64; 945], domain: usize, place: u64, len: u64) -> bool
     requires { ⌜ domain < 4 ⌝ }
     ensures { λ r. ⌜ r ≡ windowsShare (domainAt (rnicAt (now (words .entry))) domain .windows) place len ⌝ }
 {
@@ -31,7 +31,7 @@ fn windows_share(words: &[u64; 933], domain: usize, place: u64, len: u64) -> boo
 }
 
 // Whether a buffer that waits on the stream of a domain's slot does.
-fn slot_shares(words: &[u64; 933], domain: usize, slot: usize, place: u64, len: u64) -> bool
+fn slot_shares(words: &[u64; 945], domain: usize, slot: usize, place: u64, len: u64) -> bool
     requires { ⌜ (domain < 4) × (slot < 4) ⌝ }
     ensures { λ r. ⌜ r ≡ buffersShare (waiting (streamOf (rnicAt (now (words .entry))) domain slot .sends .buffers)) place len ⌝ }
 {
@@ -44,7 +44,7 @@ fn slot_shares(words: &[u64; 933], domain: usize, slot: usize, place: u64, len: 
 }
 
 // Whether a buffer that waits on one of a domain's streams does.
-fn streams_share(words: &[u64; 933], domain: usize, place: u64, len: u64) -> bool
+fn streams_share(words: &[u64; 945], domain: usize, place: u64, len: u64) -> bool
     requires { ⌜ domain < 4 ⌝ }
     ensures { λ r. ⌜ r ≡ streamsShare (domainAt (rnicAt (now (words .entry))) domain .streams) place len ⌝ }
 {
@@ -60,7 +60,7 @@ fn streams_share(words: &[u64; 933], domain: usize, place: u64, len: u64) -> boo
 }
 
 // Whether some of the len bytes from place are a write window's or a waiting buffer's of a domain.
-pub(crate) fn domain_shares(words: &[u64; 933], domain: usize, place: u64, len: u64) -> bool
+pub(crate) fn domain_shares(words: &[u64; 945], domain: usize, place: u64, len: u64) -> bool
     requires { ⌜ domain < 4 ⌝ }
     ensures { λ r. ⌜ r ≡ domainShares (domainAt (rnicAt (now (words .entry))) domain) place len ⌝ }
 {
@@ -72,7 +72,7 @@ pub(crate) fn domain_shares(words: &[u64; 933], domain: usize, place: u64, len: 
 
 // Whether rights have the write right, and some of the len bytes from place are so.
 pub(crate) fn write_shares(
-    words: &[u64; 933],
+    words: &[u64; 945],
     domain: usize,
     rights: u64,
     place: u64,

@@ -24,7 +24,7 @@ use rdmap::stream::closed_stream;
 use rdmap::stream::opened_stream;
 
 // Opens the stream of a domain's slot, if it is closed.
-fn open_slot(words: &mut [u64; 933], domain: usize, slot: usize, crc: bool) -> Outcome
+fn open_slot(words: &mut [u64; 945], domain: usize, slot: usize, crc: bool) -> Outcome
     requires { ⌜ (domain < 4) × (slot < 4) ⌝ }
     ensures { λ r. ⌜ (r ≡ opened (streamOf (rnicAt (now (words .entry))) domain slot) crc .outcome) × (rnicAt (now (words .exit)) ≡ withStreamOf (rnicAt (now (words .entry))) domain slot (opened (streamOf (rnicAt (now (words .entry))) domain slot) crc .stream)) ⌝ }
 {
@@ -37,7 +37,7 @@ fn open_slot(words: &mut [u64; 933], domain: usize, slot: usize, crc: bool) -> O
 }
 
 // Opens a stream with the CRC on or off.
-pub fn open_stream(words: &mut [u64; 933], stream: u64, crc: bool) -> Outcome
+pub fn open_stream(words: &mut [u64; 945], stream: u64, crc: bool) -> Outcome
     ensures { λ r. ⌜ (r ≡ rnicOpened (rnicAt (now (words .entry))) stream crc .outcome) × (rnicAt (now (words .exit)) ≡ rnicOpened (rnicAt (now (words .entry))) stream crc .rnic) ⌝ }
 {
     if stream <= 15 {
@@ -49,7 +49,7 @@ pub fn open_stream(words: &mut [u64; 933], stream: u64, crc: bool) -> Outcome
 }
 
 // Closes the stream of a domain's slot, if it is not closed, and counts what it leaves.
-fn close_slot(words: &mut [u64; 933], domain: usize, slot: usize) -> CloseAnswer
+fn close_slot(words: &mut [u64; 945], domain: usize, slot: usize) -> CloseAnswer
     requires { ⌜ (domain < 4) × (slot < 4) ⌝ }
     ensures { λ r. ⌜ (r ≡ closed (streamOf (rnicAt (now (words .entry))) domain slot) .answer) × (rnicAt (now (words .exit)) ≡ withStreamOf (rnicAt (now (words .entry))) domain slot (closed (streamOf (rnicAt (now (words .entry))) domain slot) .stream)) ⌝ }
 {
@@ -67,7 +67,7 @@ fn close_slot(words: &mut [u64; 933], domain: usize, slot: usize) -> CloseAnswer
 }
 
 // Closes a stream.
-pub fn close_stream(words: &mut [u64; 933], stream: u64) -> CloseAnswer
+pub fn close_stream(words: &mut [u64; 945], stream: u64) -> CloseAnswer
     ensures { λ r. ⌜ (r ≡ rnicClosed (rnicAt (now (words .entry))) stream .answer) × (rnicAt (now (words .exit)) ≡ rnicClosed (rnicAt (now (words .entry))) stream .rnic) ⌝ }
 {
     if stream <= 15 {
@@ -79,7 +79,7 @@ pub fn close_stream(words: &mut [u64; 933], stream: u64) -> CloseAnswer
 }
 
 // Posts a buffer on the stream of a domain's slot. Whether it shares a byte with another is asked last.
-fn post_slot(words: &mut [u64; 933], domain: usize, slot: usize, start: u64, len: u64) -> Outcome
+fn post_slot(words: &mut [u64; 945], domain: usize, slot: usize, start: u64, len: u64) -> Outcome
     requires { ⌜ (domain < 4) × (slot < 4) ⌝ }
     ensures { λ r. ⌜ (r ≡ domainPosted (domainAt (rnicAt (now (words .entry))) domain) slot start len .outcome) × (rnicAt (now (words .exit)) ≡ withDomain (rnicAt (now (words .entry))) domain (domainPosted (domainAt (rnicAt (now (words .entry))) domain) slot start len .domain)) ⌝ }
 {
@@ -108,7 +108,7 @@ fn post_slot(words: &mut [u64; 933], domain: usize, slot: usize, start: u64, len
 }
 
 // Posts a buffer on a stream.
-pub fn post(words: &mut [u64; 933], stream: u64, start: u64, len: u64) -> Outcome
+pub fn post(words: &mut [u64; 945], stream: u64, start: u64, len: u64) -> Outcome
     ensures { λ r. ⌜ (r ≡ rnicPosted (rnicAt (now (words .entry))) stream start len .outcome) × (rnicAt (now (words .exit)) ≡ rnicPosted (rnicAt (now (words .entry))) stream start len .rnic) ⌝ }
 {
     if stream <= 15 {
@@ -120,7 +120,7 @@ pub fn post(words: &mut [u64; 933], stream: u64, start: u64, len: u64) -> Outcom
 }
 
 // Takes the read that came first of those that wait on the stream of a domain's slot.
-fn take_slot(words: &mut [u64; 933], domain: usize, slot: usize) -> TakeAnswer
+fn take_slot(words: &mut [u64; 945], domain: usize, slot: usize) -> TakeAnswer
     requires { ⌜ (domain < 4) × (slot < 4) ⌝ }
     ensures { λ r. ⌜ (r ≡ takenFrom (streamOf (rnicAt (now (words .entry))) domain slot) .answer) × (rnicAt (now (words .exit)) ≡ withStreamOf (rnicAt (now (words .entry))) domain slot (takenFrom (streamOf (rnicAt (now (words .entry))) domain slot) .stream)) ⌝ }
 {
@@ -142,7 +142,7 @@ fn take_slot(words: &mut [u64; 933], domain: usize, slot: usize) -> TakeAnswer
 }
 
 // Takes the oldest read that waits on a stream.
-pub fn take(words: &mut [u64; 933], stream: u64) -> TakeAnswer
+pub fn take(words: &mut [u64; 945], stream: u64) -> TakeAnswer
     ensures { λ r. ⌜ (r ≡ rnicTaken (rnicAt (now (words .entry))) stream .answer) × (rnicAt (now (words .exit)) ≡ rnicTaken (rnicAt (now (words .entry))) stream .rnic) ⌝ }
 {
     if stream <= 15 {

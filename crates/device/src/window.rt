@@ -22,7 +22,7 @@ use rnic::Count;
 
 // Registers the window of a domain's slot. Whether it shares a byte with another writer is asked last.
 fn register_slot(
-    words: &mut [u64; 933],
+    words: &mut [u64; 945],
     domain: usize,
     slot: usize,
     key: u64,
@@ -53,7 +53,7 @@ fn register_slot(
 
 // Registers a window.
 pub fn register(
-    words: &mut [u64; 933],
+    words: &mut [u64; 945],
     window: u64,
     key: u64,
     base: u64,
@@ -72,7 +72,7 @@ pub fn register(
 }
 
 // Drops the window of a domain's slot: it is dead, and its key is kept.
-pub(crate) fn drop_slot(words: &mut [u64; 933], domain: usize, slot: usize) -> Outcome
+pub(crate) fn drop_slot(words: &mut [u64; 945], domain: usize, slot: usize) -> Outcome
     requires { ⌜ (domain < 4) × (slot < 16) ⌝ }
     ensures { λ r. ⌜ (r ≡ droppedIn (windowOf (rnicAt (now (words .entry))) domain slot) .outcome) × (rnicAt (now (words .exit)) ≡ withWindowOf (rnicAt (now (words .entry))) domain slot (droppedIn (windowOf (rnicAt (now (words .entry))) domain slot) .window)) ⌝ }
 {
@@ -85,7 +85,7 @@ pub(crate) fn drop_slot(words: &mut [u64; 933], domain: usize, slot: usize) -> O
 }
 
 // Drops a window.
-pub fn drop_window(words: &mut [u64; 933], window: u64) -> Outcome
+pub fn drop_window(words: &mut [u64; 945], window: u64) -> Outcome
     ensures { λ r. ⌜ (r ≡ rnicDropped (rnicAt (now (words .entry))) window .outcome) × (rnicAt (now (words .exit)) ≡ rnicDropped (rnicAt (now (words .entry))) window .rnic) ⌝ }
 {
     if window <= 63 {
@@ -97,7 +97,7 @@ pub fn drop_window(words: &mut [u64; 933], window: u64) -> Outcome
 }
 
 // The live marks of a domain's windows, bit i for slot i.
-fn load_marks(words: &[u64; 933], domain: usize) -> u16
+fn load_marks(words: &[u64; 945], domain: usize) -> u16
     requires { ⌜ domain < 4 ⌝ }
     ensures { λ r. ⌜ r ≡ liveMarks (domainAt (rnicAt (now (words .entry))) domain .windows) ⌝ }
 {
@@ -111,7 +111,7 @@ fn load_marks(words: &[u64; 933], domain: usize) -> u16
 }
 
 // How many windows of a domain are live.
-fn count_live(words: &[u64; 933], domain: usize) -> u32
+fn count_live(words: &[u64; 945], domain: usize) -> u32
     requires { ⌜ domain < 4 ⌝ }
     ensures { λ r. ⌜ r ≡ liveCount (domainAt (rnicAt (now (words .entry))) domain .windows) ⌝ }
 {
@@ -119,7 +119,7 @@ fn count_live(words: &[u64; 933], domain: usize) -> u32
 }
 
 // How many windows of a domain are live; a number over 3 is refused.
-pub fn live_count(words: &[u64; 933], number: u64) -> Count
+pub fn live_count(words: &[u64; 945], number: u64) -> Count
     ensures { λ r. ⌜ r ≡ rnicLive (rnicAt (now (words .entry))) number ⌝ }
 {
     if number <= 3 {
@@ -129,7 +129,7 @@ pub fn live_count(words: &[u64; 933], number: u64) -> Count
 }
 
 // The lowest slot of a domain whose window is dead, 16 where none is.
-fn find_free(words: &[u64; 933], domain: usize) -> u32
+fn find_free(words: &[u64; 945], domain: usize) -> u32
     requires { ⌜ domain < 4 ⌝ }
     ensures { λ r. ⌜ r ≡ lowestFree (domainAt (rnicAt (now (words .entry))) domain .windows) ⌝ }
 {
@@ -137,7 +137,7 @@ fn find_free(words: &[u64; 933], domain: usize) -> u32
 }
 
 // Which of a domain's sixteen slots is the lowest free, 16 if none; a number over 3 is refused.
-pub fn lowest_free(words: &[u64; 933], number: u64) -> Count
+pub fn lowest_free(words: &[u64; 945], number: u64) -> Count
     ensures { λ r. ⌜ r ≡ rnicFree (rnicAt (now (words .entry))) number ⌝ }
 {
     if number <= 3 {

@@ -3,11 +3,17 @@ use Prim.Native.Nat.{ℕ}
 use mathlib.Core.Bool.{Bool}
 use mathlib.Core.List.{List, []}
 use lib.ListN.{getD, set, replicate}
-use lib.Dec.{leb}
+use lib.Dec.{leb, eqb}
 use Rattle.wire.specs.Wire.{pick, both}
 use Rattle.memory.specs.Window.{noWindow, registered, dropped}
 use Rattle.memory.specs.declared.part.Outcome.the-variants.{Refused as NotDone}
 use Rattle.memory.specs.declared.window.Window.{Window}
+use Rattle.meter.specs.Gauge.{countedMeter, newMeter, tickedMeter, readingOf}
+use Rattle.meter.specs.declared.Meter.{Meter}
+use Rattle.meter.specs.declared.gauge.Reading.{Reading}
+use Rattle.ddp.specs.Segment.{segmentRead}
+use Rattle.ddp.specs.declared.segment.SegmentRead.{SegmentRead}
+use Rattle.ddp.specs.declared.segment.SegmentRead.the-variants.{Wait as SegmentWait, Refused as SegmentRefused, Tagged as TaggedSegment, Untagged as UntaggedSegment}
 use Rattle.rdmap.specs.Phase.{phaseOf}
 use Rattle.rdmap.specs.Framing.{noFraming}
 use Rattle.rdmap.specs.Stream.{closedStream, opened, closed, postedOn, takenFrom}
@@ -17,7 +23,8 @@ use Rattle.domain.specs.declared.Domain.{Domain}
 use Rattle.domain.specs.declared.DomainDone.{DomainDone}
 use Rattle.domain.specs.declared.DomainClosed.{DomainClosed}
 use Rattle.domain.specs.declared.DomainTaken.{DomainTaken}
-use Rattle.domain.specs.declared.Answer.the-variants.{Refused}
+use Rattle.domain.specs.declared.Answer.{Answer}
+use Rattle.domain.specs.declared.Answer.the-variants.{Wait, Taken, Ended, Refused}
 use Rattle.domain.specs.declared.Received.{Received}
 use Rattle.rdmap.specs.declared.stream.CloseAnswer.the-variants.{Refused as NotClosed}
 use Rattle.rdmap.specs.declared.stream.TakeAnswer.the-variants.{Refused as NotTaken}
@@ -37,14 +44,14 @@ abbrev pub streamAt : Domain → ℕ → Stream
 streamAt d slot = getD (d .streams) slot noStream
 
 abbrev pub withStream : Domain → ℕ → Stream → Domain
-withStream d slot s = record { part = d .part; windows = d .windows; streams = set (d .streams) slot s }
+withStream d slot s = record { part = d .part; windows = d .windows; streams = set (d .streams) slot s; meter = d .meter }
 
 abbrev pub withWindows : Domain → List Window → Domain
-withWindows d ws = record { part = d .part; windows = ws; streams = d .streams }
+withWindows d ws = record { part = d .part; windows = ws; streams = d .streams; meter = d .meter }
 
 -- "At first all windows are dead with no last key and all streams closed"
 abbrev pub newDomain : ℕ → ℕ → Domain
-newDomain start end = record { part = record { start = start; end = end }; windows = replicate 16 noWindow; streams = replicate 4 closedStream }
+newDomain start end = record { part = record { start = start; end = end }; windows = replicate 16 noWindow; streams = replicate 4 closedStream; meter = newMeter }
 
 -- ---- streams
 
@@ -93,14 +100,46 @@ domainDropped d slot = record {
   domain = withWindows d (dropped (d .windows) slot .windows);
 }
 
+-- ---- the meter
+
+abbrev pub withMeter : Domain → Meter → Domain
+withMeter d m = record { part = d .part; windows = d .windows; streams = d .streams; meter = m }
+
+-- "bytes placed": the payload bytes of a Write and of a Send
+abbrev pub segmentCount : SegmentRead → ℕ
+segmentCount (SegmentWait n) = 0
+segmentCount (SegmentRefused r) = 0
+segmentCount (TaggedSegment total h start len) = len
+segmentCount (UntaggedSegment total h start len) = pick (eqb (h .qn) 0) len 0
+
+-- the meter, by what is answered to a segment with so many: those of a taken one are counted
+abbrev pub meterBy : Answer → ℕ → Meter → Meter
+meterBy (Wait n) placed m = m
+meterBy (Taken total e) placed m = countedMeter m placed
+meterBy (Ended r) placed m = m
+meterBy (Refused k) placed m = m
+
+abbrev pub metered : Answer → SegmentRead → Domain → Domain
+metered a x d = withMeter d (meterBy a (segmentCount x) (d .meter))
+
+abbrev pub meteredOf : SegmentRead → Received → Received
+meteredOf x r = record { answer = r .answer; domain = metered (r .answer) x (r .domain) }
+
+-- "the tick makes that domain's count the sample and clears it"
+abbrev pub domainTicked : Domain → Domain
+domainTicked d = withMeter d (tickedMeter (d .meter))
+
+abbrev pub domainReading : Domain → Reading
+domainReading d = readingOf (d .meter .gauge) (d .meter .ticked)
+
 -- ---- receive
 
 -- receive on the stream of a slot of domain number: the answer and the domain. It is that of specs/Parts.antt, lifted: the stream
--- of the slot is exchanged, and the window that a Send invalidated is dead.
+-- of the slot is exchanged, and the window that a Send invalidated is dead; and what was placed is counted.
 unfoldable pub domainReceived : Domain → ℕ → ℕ → List ℕ → Received
 domainReceived d number slot input =
     pick (leb slot 3)
-    (lifted d slot (partsReceived (d .windows) number (streamAt d slot) input))
+    (meteredOf (segmentRead (streamAt d slot .framing .crc) input) (lifted d slot (partsReceived (d .windows) number (streamAt d slot) input)))
     (record { answer = Refused 1; domain = d })
 
 -- and the domain's bytes of the store

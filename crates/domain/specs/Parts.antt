@@ -135,5 +135,5 @@ killed (Stag slot stag) ws = dropped ws slot .windows
 abbrev pub lifted : Domain → ℕ → PartsReceived → Received
 lifted d slot r = record {
   answer = r .answer;
-  domain = record { part = d .part; windows = killed (r .invalidate) (d .windows); streams = set (d .streams) slot (r .stream) };
+  domain = record { part = d .part; windows = killed (r .invalidate) (d .windows); streams = set (d .streams) slot (r .stream); meter = d .meter };
 }

@@ -19,15 +19,25 @@ ghost use Rattle.domain.specs.Domain.{
   domainDropped,
   domainReceived,
   domainReceivedBytes,
+  segmentCount,
+  meterBy,
+  domainTicked,
+  domainReading,
 };
+ghost use Rattle.ddp.specs.Segment.{segmentRead};
 use crate::parts::kill;
 use crate::parts::receive_parts;
 use crate::sharing::domain_shares;
 use crate::sharing::has_write;
 use ddp::refusal::Refusal;
+use ddp::segment::SegmentRead;
+use ddp::segment::read_segment;
 use memory::part::Outcome;
 use memory::part::Part;
 use memory::window::Window;
+use meter::Meter;
+use meter::gauge::Reading;
+use meter::new_meter;
 use rdmap::stream::CloseAnswer;
 use rdmap::stream::Stream;
 use rdmap::stream::TakeAnswer;
@@ -43,6 +53,7 @@ pub struct Domain {
     pub part: Part,
     pub windows: [Window; 16],
     pub streams: [Stream; 4],
+    pub meter: Meter,
 }
 
 // What a call answers, and the domain after it.
@@ -257,7 +268,65 @@ pub fn drop_window(d: Domain, slot: u64) -> DomainDone
     }
 }
 
-// Takes the first FPDU of bytes for a stream of the domain of this number, whose bytes are lent.
+// How many payload bytes the first FPDU of bytes has, if it is a Write or a Send.
+fn segment_count(crc: bool, bytes: &[u8]) -> usize
+    ensures { λ r. ⌜ r ≡ segmentCount (segmentRead crc (now (bytes .entry))) ⌝ }
+{
+    match read_segment(crc, bytes) {
+        SegmentRead::Wait(_) => 0,
+        SegmentRead::Refused(_) => 0,
+        SegmentRead::Tagged {
+            total: _,
+            header: _,
+            start: _,
+            len,
+        } => len,
+        SegmentRead::Untagged {
+            total: _,
+            header,
+            start: _,
+            len,
+        } => {
+            if header.qn == 0 {
+                return len;
+            }
+            0
+        }
+    }
+}
+
+// The meter after an answer to a segment with so many of them: those of a taken one are counted.
+fn meter_after(m: Meter, answer: Answer, placed: usize) -> Meter
+    ensures { λ r. ⌜ r ≡ meterBy answer placed m ⌝ }
+{
+    match answer {
+        Answer::Wait(_) => m,
+        Answer::Taken { total: _, event: _ } => meter::count(m, placed),
+        Answer::Ended(_) => m,
+        Answer::Refused(_) => m,
+    }
+}
+
+// The domain after a tick: what was placed since the last one is a sample.
+pub fn tick(d: Domain) -> Domain
+    ensures { λ r. ⌜ r ≡ domainTicked d ⌝ }
+{
+    let meter = d.meter;
+    let mut next = d;
+    next.meter = meter::tick(meter);
+    next
+}
+
+// What the domain's gauge reads as.
+pub fn reading(d: Domain) -> Reading
+    ensures { λ r. ⌜ r ≡ domainReading d ⌝ }
+{
+    let meter = d.meter;
+    meter::reading(meter)
+}
+
+// Takes the first FPDU of bytes for a stream of the domain of this number, whose bytes are lent. What it
+// places is counted.
 pub fn receive(d: Domain, number: u64, store: &mut [u8], slot: u64, bytes: &[u8]) -> Received
     ensures { λ r. ⌜ (r ≡ domainReceived d number slot (now (bytes .entry))) × (now (store .exit) ≡ domainReceivedBytes d number slot (now (bytes .entry)) (now (store .entry))) ⌝ }
 {
@@ -271,8 +340,12 @@ pub fn receive(d: Domain, number: u64, store: &mut [u8], slot: u64, bytes: &[u8]
         let stream = done.stream;
         let which = done.invalidate;
         let after = kill(windows, which);
+        let framing = s.framing;
+        let meter = d.meter;
+        let counted = meter_after(meter, answer, segment_count(framing.crc, bytes));
         let mut next = with_stream(d, at, stream);
         next.windows = after;
+        next.meter = counted;
         return Received {
             answer,
             domain: next,
@@ -300,5 +373,6 @@ pub fn new_domain(start: u32, end: u32) -> Domain
         part: Part { start, end },
         windows: [window; 16],
         streams: [closed_stream(); 4],
+        meter: new_meter(),
     }
 }

@@ -25,7 +25,7 @@ use Rattle.rdmap.specs.declared.message.Verdict.the-variants.{Refused as Verdic
 use Rattle.rdmap.specs.declared.phase.Readiness.{Readiness}
 use Rattle.rdmap.specs.declared.phase.Readiness.the-variants.{Ready, NotReady}
 use Rattle.rdmap.specs.declared.stream.Stream.{Stream}
-use Rattle.domain.specs.Domain.{noStream, streamAt, domainReceivedBytes}
+use Rattle.domain.specs.Domain.{noStream, streamAt, domainReceivedBytes, meteredOf}
 use Rattle.domain.specs.Parts.{partsApplied, partsVerdict, partsJudged, partsPlaced, partsUnchanged, partsAnswered, partsWhen, partsBytesWhen, partsReceived, partsReceivedBytes, lifted}
 use Rattle.domain.specs.declared.Answer.the-variants.{Wait, Refused}
 use Rattle.domain.specs.declared.Domain.{Domain}
@@ -184,7 +184,7 @@ pub domain-room-holds :
     ≡ domainOfferedHeld d number slot (take (streamAt d slot .framing .held) room) input
 unfolding domainOffered domainOfferedHeld
 domain-room-holds d number slot l input room size =
-    subst (λ (b : Bool). take (streamAt (pick b (lifted d slot r) (record { answer = Refused 1; domain = d }) .domain) slot .framing .held) (streamRoom s h input room) ≡ heldOf h input (pick b (lifted d slot r) (record { answer = Refused 1; domain = d }) .answer))
+    subst (λ (b : Bool). take (streamAt (pick b (meteredOf (segmentRead (s .framing .crc) (h ++ input)) (lifted d slot r)) (record { answer = Refused 1; domain = d }) .domain) slot .framing .held) (streamRoom s h input room) ≡ heldOf h input (pick b (meteredOf (segmentRead (s .framing .crc) (h ++ input)) (lifted d slot r)) (record { answer = Refused 1; domain = d }) .answer))
     (sym (le-leb slot 3 l)) (go (decLt slot (length (d .streams))))
   where
     s : Stream

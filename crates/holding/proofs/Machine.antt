@@ -22,7 +22,8 @@ use Rattle.rdmap.specs.declared.message.Verdict.the-variants.{Refused as Verdic
 use Rattle.rdmap.specs.declared.phase.Readiness.{Readiness}
 use Rattle.rdmap.specs.declared.phase.Readiness.the-variants.{Ready, NotReady}
 use Rattle.rdmap.specs.declared.stream.Stream.{Stream}
-use Rattle.domain.specs.Domain.{noStream, streamAt, withStream, domainReceived, domainReceivedBytes}
+use Rattle.meter.specs.declared.Meter.{Meter}
+use Rattle.domain.specs.Domain.{noStream, streamAt, withStream, domainReceived, domainReceivedBytes, withMeter, segmentCount, meterBy, metered, meteredOf}
 use Rattle.domain.specs.Parts.{partsApplied, partsVerdict, partsJudged, partsAnswered, partsWhen, partsReceived, partsReceivedBytes, partsUnchanged, killed, lifted}
 use Rattle.domain.specs.declared.Domain.{Domain}
 use Rattle.domain.specs.declared.Answer.{Answer}
@@ -109,7 +110,7 @@ module _ (slot : ℕ) where
 module _ (d : Domain) (slot : ℕ) where
   -- the domain again, of its state and the bytes that the stream holds
   pub domain-back : (held bytes : List ℕ) → streamAt d slot .framing .held ≡ length held → domainOf slot (sideOf slot d bytes) held ≡ d
-  domain-back held bytes q i = record { part = d .part; windows = d .windows; streams = back i }
+  domain-back held bytes q i = record { part = d .part; windows = d .windows; streams = back i; meter = d .meter }
     where
       back : set (set (d .streams) slot (holding (streamAt d slot) 0)) slot (holding (streamAt (sideOf slot d bytes .domain) slot) (length held)) ≡ d .streams
       back =
@@ -131,8 +132,12 @@ module _ (d : Domain) (number slot : ℕ) where
   abbrev madeBytes : List ℕ → List ℕ → List ℕ
   madeBytes p bytes = partsReceivedBytes (d .part) (d .windows) number (holding own 0) p bytes
 
+  -- the meter after it
+  abbrev madeMeter : List ℕ → Meter
+  madeMeter p = meterBy (made p .answer) (segmentCount (segmentRead (own .framing .crc) p)) (d .meter)
+
   abbrev madeSide : List ℕ → List ℕ → Side
-  madeSide p bytes = record { domain = lifted d slot (made p) .domain; bytes = madeBytes p bytes }
+  madeSide p bytes = record { domain = withMeter (lifted d slot (made p) .domain) (madeMeter p); bytes = madeBytes p bytes }
 
   -- a stream that waits is one of the domain's
   wait-inside : (p : List ℕ) (n : ℕ) → made p .answer ≡ Wait n → slot < length (d .streams)
@@ -146,13 +151,13 @@ module _ (d : Domain) (number slot : ℕ) where
 
   module _ (h : slot ≤ 3) where
     module _ (p bytes : List ℕ) where
-      domain-is : domainReceived (sideOf slot d bytes .domain) number slot p ≡ lifted d slot (made p)
+      domain-is : domainReceived (sideOf slot d bytes .domain) number slot p ≡ meteredOf (segmentRead (own .framing .crc) p) (lifted d slot (made p))
       unfolding domainReceived
       domain-is =
           let d₀ : Domain = sideOf slot d bytes .domain in
-          ap (λ (b : Bool). pick b (lifted d₀ slot (partsReceived (d .windows) number (streamAt d₀ slot) p)) (record { answer = Refused 1; domain = d₀ })) (le-leb slot 3 h)
-          ∙ ap (λ (s : Stream). lifted d₀ slot (partsReceived (d .windows) number s p)) (emptied-there slot (d .streams))
-          ∙ (λ i. record { answer = made p .answer; domain = record { part = d .part; windows = killed (made p .invalidate) (d .windows); streams = set-set (d .streams) slot (holding own 0) (made p .stream) i } })
+          ap (λ (b : Bool). pick b (meteredOf (segmentRead (streamAt d₀ slot .framing .crc) p) (lifted d₀ slot (partsReceived (d .windows) number (streamAt d₀ slot) p))) (record { answer = Refused 1; domain = d₀ })) (le-leb slot 3 h)
+          ∙ ap (λ (s : Stream). meteredOf (segmentRead (s .framing .crc) p) (lifted d₀ slot (partsReceived (d .windows) number s p))) (emptied-there slot (d .streams))
+          ∙ (λ i. record { answer = made p .answer; domain = record { part = d .part; windows = killed (made p .invalidate) (d .windows); streams = set-set (d .streams) slot (holding own 0) (made p .stream) i; meter = madeMeter p } })
 
       bytes-are : domainReceivedBytes (sideOf slot d bytes .domain) number slot p bytes ≡ madeBytes p bytes
       unfolding domainReceivedBytes
@@ -200,9 +205,11 @@ module _ (d : Domain) (number slot : ℕ) where
     -- ---- a call
 
     -- the state after parts were exchanged
-    emptied : (r : PartsReceived) (t : Stream) → holding (r .stream) 0 ≡ t → (bytes : List ℕ) → sideOf slot (lifted d slot r .domain) bytes ≡ record { domain = lifted d slot (record { answer = r .answer; stream = t; invalidate = r .invalidate }) .domain; bytes = bytes }
-    emptied r t e bytes i = record {
-      domain = record { part = d .part; windows = killed (r .invalidate) (d .windows); streams = (put-emptied slot (d .streams) (r .stream) ∙ ap (set (d .streams) slot) e) i };
+    emptied :
+        (r : PartsReceived) (m : Meter) (t : Stream) → holding (r .stream) 0 ≡ t → (bytes : List ℕ) →
+        sideOf slot (withMeter (lifted d slot r .domain) m) bytes ≡ record { domain = withMeter (lifted d slot (record { answer = r .answer; stream = t; invalidate = r .invalidate }) .domain) m; bytes = bytes }
+    emptied r m t e bytes i = record {
+      domain = record { part = d .part; windows = killed (r .invalidate) (d .windows); streams = (put-emptied slot (d .streams) (r .stream) ∙ ap (set (d .streams) slot) e) i; meter = m };
       bytes = bytes;
     }
 
@@ -217,13 +224,13 @@ module _ (d : Domain) (number slot : ℕ) where
       abbrev ofParts : PartsReceived → Offered Side Report
       ofParts r = record {
         answer = answerOf (offerAnswer (length held) (length input) (r .answer));
-        state = sideOf slot (lifted d slot r .domain) (madeBytes pending bytes);
+        state = sideOf slot (metered (r .answer) (segmentRead (own .framing .crc) pending) (lifted d slot r .domain)) (madeBytes pending bytes);
         held = heldOf held input (r .answer);
       }
 
       -- an FPDU that was taken, or that ended the stream
-      changed : sideOf slot (lifted d slot (made pending) .domain) (madeBytes pending bytes) ≡ madeSide pending bytes
-      changed = emptied (made pending) (made pending .stream) (holding-none own (made pending .stream) (received-framing (d .windows) number (holding own 0) pending)) (madeBytes pending bytes)
+      changed : sideOf slot (withMeter (lifted d slot (made pending) .domain) (madeMeter pending)) (madeBytes pending bytes) ≡ madeSide pending bytes
+      changed = emptied (made pending) (madeMeter pending) (made pending .stream) (holding-none own (made pending .stream) (received-framing (d .windows) number (holding own 0) pending)) (madeBytes pending bytes)
 
       judged : (a : Answer) → made pending .answer ≡ a → record { answer = answerOf (offerAnswer (length held) (length input) a); state = madeSide pending bytes; held = heldOf held input a } ≡ ofParts (made pending)
       judged a e i = record { answer = answerOf (offerAnswer (length held) (length input) (sym e i)); state = sym changed i; held = heldOf held input (sym e i) }
@@ -232,7 +239,7 @@ module _ (d : Domain) (number slot : ℕ) where
       unchanged : (a : Answer) (m : ℕ) → sideAfter number slot (sideOf slot d bytes) pending ≡ sideOf slot d bytes → sideOf slot d bytes ≡ sideOf slot (lifted d slot (partsUnchanged (holding own m) a) .domain) (madeBytes pending bytes)
       unchanged a m e =
           let same : madeBytes pending bytes ≡ bytes = sym (bytes-are pending bytes) ∙ ap (λ (w : Side). w .bytes) e in
-          sym (emptied (partsUnchanged (holding own m) a) (holding own 0) refl (madeBytes pending bytes) ∙ (λ i. record { domain = sideOf slot d bytes .domain; bytes = same i }))
+          sym (emptied (partsUnchanged (holding own m) a) (d .meter) (holding own 0) refl (madeBytes pending bytes) ∙ (λ i. record { domain = sideOf slot d bytes .domain; bytes = same i }))
 
       by-answer : (a : Answer) → made pending .answer ≡ a → offerOf (sideOf slot d bytes) held input (stepOf a (madeSide pending bytes)) ≡ ofParts (parts a)
       by-answer (Wait n) e = λ i. record {
@@ -248,9 +255,9 @@ module _ (d : Domain) (number slot : ℕ) where
         held = held;
       }
 
-      offered-is : domainOffered d number slot held input ≡ lifted d slot (parts (made pending .answer))
+      offered-is : domainOffered d number slot held input ≡ meteredOf (segmentRead (own .framing .crc) pending) (lifted d slot (parts (made pending .answer)))
       unfolding domainOffered partsOffered
-      offered-is = ap (λ (b : Bool). pick b (lifted d slot (parts (made pending .answer))) (record { answer = Refused 1; domain = d })) (le-leb slot 3 h)
+      offered-is = ap (λ (b : Bool). pick b (meteredOf (segmentRead (own .framing .crc) pending) (lifted d slot (parts (made pending .answer)))) (record { answer = Refused 1; domain = d })) (le-leb slot 3 h)
 
       offered-bytes : domainOfferedBytes d number slot held input bytes ≡ madeBytes pending bytes
       unfolding domainOfferedBytes partsOfferedBytes
@@ -309,12 +316,12 @@ module _ (d : Domain) (number slot : ℕ) where
 
       -- ---- a local refusal changes nothing
 
-      refused-by : (k : ℕ) (a : Answer) → made pending .answer ≡ a → parts a .answer ≡ Refused k → (lifted d slot (parts a) .domain ≡ d) × (madeBytes pending bytes ≡ bytes)
+      refused-by : (k : ℕ) (a : Answer) → made pending .answer ≡ a → parts a .answer ≡ Refused k → (metered (parts a .answer) (segmentRead (own .framing .crc) pending) (lifted d slot (parts a) .domain) ≡ d) × (madeBytes pending bytes ≡ bytes)
       refused-by k (Wait n) e q = absurd (let no : _≡_ {A = ℕ} 0 1 = cc in omega arith)
       refused-by k (Taken total x) e q = absurd (let no : _≡_ {A = ℕ} 0 1 = cc in omega arith)
       refused-by k (Ended x) e q = absurd (let no : _≡_ {A = ℕ} 0 1 = cc in omega arith)
       refused-by k (Refused j) e q = (
-        λ i. record { part = d .part; windows = d .windows; streams = set-getD (d .streams) slot noStream i },
+        λ i. record { part = d .part; windows = d .windows; streams = set-getD (d .streams) slot noStream i; meter = d .meter },
         sym (bytes-are pending bytes) ∙ ap (λ (w : Side). w .bytes) (refused-stays number slot (sideOf slot d bytes) pending j (ap (λ (r : Received). r .answer) (domain-is pending bytes) ∙ e)),
       )
 

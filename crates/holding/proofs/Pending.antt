@@ -101,6 +101,18 @@ module _ (p : List ℕ) where
       go (under h) = few-read crc p h ∙ ap SegmentWait (sym (needed-few h))
       go (part k) = begun-read crc p k ∙ ap SegmentWait (sym (needed-size (k .begun) (k .low)))
 
+  -- enough: the segment is that of the needed bytes
+  pub enough-read : (crc : Bool) → isShort p ≡ false → segmentRead crc (take (neededOf p) p) ≡ segmentRead crc p
+  enough-read crc e = go (long-enough e)
+    where
+      go : Enough → segmentRead crc (take (neededOf p) p) ≡ segmentRead crc p
+      go (over k) =
+          let q : List ℕ = take 2 p in
+          let same : be16At q 0 ≡ be16At p 0 = be16At-take 2 p 0 (omega arith) in
+          let long-q : Long q = record { begun = omega (arith, length-take-le 2 p (k .begun)); high = rw same (k .high) } in
+          ap (λ (n : ℕ). segmentRead crc (take n p)) (needed-long k) ∙ long-read crc q long-q ∙ sym (long-read crc p k)
+      go (all k) = ap (λ (n : ℕ). segmentRead crc (take n p)) (needed-size (omega (arith, k .all)) (k .low)) ∙ own-read p k crc
+
 -- ---- what an open stream makes of them
 
 -- an FPDU was taken, or the stream ended
@@ -163,28 +175,12 @@ module _ (part : Part) (ws : List Window) (number : ℕ) (s : Stream) (crc : Boo
 
   -- enough: the needed bytes alone count
   pub enough-own : isShort p ≡ false → (answeredOf (take (neededOf p) p) ≡ answeredOf p) × (placedOf (take (neededOf p) p) ≡ placedOf p)
-  enough-own e = go (long-enough p e)
-    where
-      go : Enough p → (answeredOf (take (neededOf p) p) ≡ answeredOf p) × (placedOf (take (neededOf p) p) ≡ placedOf p)
-      go (over k) =
-          let q : List ℕ = take 2 p in
-          let same : be16At q 0 ≡ be16At p 0 = be16At-take 2 p 0 (omega arith) in
-          let long-q : Long q = record { begun = omega (arith, length-take-le 2 p (k .begun)); high = rw same (k .high) } in
-          let r = long-read crc q long-q ∙ sym (long-read crc p k) in
-          let at : take (neededOf p) p ≡ q = ap (λ (n : ℕ). take n p) (needed-long p k) in
-          (ap answeredOf at ∙ refused-same q (long-read crc q long-q) (long-read crc p k), ap placedOf at ∙ refused-placed q (long-read crc q long-q) (long-read crc p k))
-        where
-          refused-same : (q : List ℕ) → segmentRead crc q ≡ SegmentRefused ulpduTooLong → segmentRead crc p ≡ SegmentRefused ulpduTooLong → answeredOf q ≡ answeredOf p
-          refused-same q a b = ap (λ (x : SegmentRead). partsAnswered s (partsJudged ws number s q x)) a ∙ sym (ap (λ (x : SegmentRead). partsAnswered s (partsJudged ws number s p x)) b)
-
-          refused-placed : (q : List ℕ) → segmentRead crc q ≡ SegmentRefused ulpduTooLong → segmentRead crc p ≡ SegmentRefused ulpduTooLong → placedOf q ≡ placedOf p
-          refused-placed q a b = ap (partsPlaced part ws number s q bytes) a ∙ sym (ap (partsPlaced part ws number s p bytes) b)
-      go (all k) =
-          let x : SegmentRead = segmentRead crc p in
-          let q : List ℕ = take (sizeOf p) p in
-          let at : take (neededOf p) p ≡ q = ap (λ (n : ℕ). take n p) (needed-size p (omega (arith, k .all)) (k .low)) in
-          let inside : endOf x ≤ sizeOf p = subst (λ (z : SegmentRead). endOf z ≤ sizeOf p) (own-read p k crc) (omega (arith, segment-inside crc q, own-long p k)) in
-          let same = same-payload part ws number s bytes (sizeOf p) p x (k .all) inside in (
-            ap answeredOf at ∙ ap (λ (z : SegmentRead). partsAnswered s (partsJudged ws number s q z)) (own-read p k crc) ∙ same .answered,
-            ap placedOf at ∙ ap (partsPlaced part ws number s q bytes) (own-read p k crc) ∙ same .placed,
-          )
+  unfolding isShort
+  enough-own e =
+      let m : ℕ = neededOf p in
+      let x : SegmentRead = segmentRead crc p in
+      let more : m ≤ length p = ltb-false (length p) m e in
+      let r : segmentRead crc (take m p) ≡ x = enough-read p crc e in
+      let inside : endOf x ≤ m = subst (λ (z : SegmentRead). endOf z ≤ m) r (omega (arith, segment-inside crc (take m p), length-take-le m p more)) in
+      let same = same-payload part ws number s bytes m p x more inside in
+      (ap (λ (z : SegmentRead). partsAnswered s (partsJudged ws number s (take m p) z)) r ∙ same .answered, ap (partsPlaced part ws number s (take m p) bytes) r ∙ same .placed)

@@ -9,7 +9,8 @@ use Rattle.memory.specs.declared.part.Part.{Part}
 use Rattle.memory.specs.declared.window.Window.{Window}
 use Rattle.rdmap.specs.Stream.{holding}
 use Rattle.rdmap.specs.declared.stream.Stream.{Stream}
-use Rattle.domain.specs.Domain.{streamAt, domainReceived, domainReceivedBytes}
+use Rattle.ddp.specs.Segment.{segmentRead}
+use Rattle.domain.specs.Domain.{streamAt, meteredOf, domainReceived, domainReceivedBytes}
 use Rattle.domain.specs.Parts.{partsUnchanged, partsReceived, partsReceivedBytes, lifted}
 use Rattle.domain.specs.declared.Domain.{Domain}
 use Rattle.domain.specs.declared.Answer.{Answer}
@@ -80,13 +81,13 @@ heldOf held input (Refused k) = held
 abbrev pub streamRoom : Stream → List ℕ → List ℕ → List ℕ → List ℕ
 streamRoom s held input room = pick (isOpen s) (roomAfter held input room) room
 
--- ---- of a domain: the stream of a slot is exchanged, and the window that a Send invalidated is dead
+-- ---- of a domain: the stream of a slot is exchanged, the window that a Send invalidated is dead, and what was placed is counted
 
 -- the answer is receive's to the pending bytes; the call's own is `offerAnswer` of it
 unfoldable pub domainOffered : Domain → ℕ → ℕ → List ℕ → List ℕ → Received
 domainOffered d number slot held input =
     pick (leb slot 3)
-    (lifted d slot (partsOffered (d .windows) number (streamAt d slot) held input))
+    (meteredOf (segmentRead (streamAt d slot .framing .crc) (held ++ input)) (lifted d slot (partsOffered (d .windows) number (streamAt d slot) held input)))
     (record { answer = Refused 1; domain = d })
 
 unfoldable pub domainOfferedBytes : Domain → ℕ → ℕ → List ℕ → List ℕ → List ℕ → List ℕ

@@ -42,7 +42,7 @@ use Rattle.rnic.specs.declared.Rnic.{Rnic}
 use Rattle.rnic.specs.Offer.{roomsBytes, heldBytes}
 use Rattle.holding.specs.Offer.{holdsAt, domainReceivesBytes, domainOfferedBytes}
 use Rattle.isolation.specs.Book.{Call, Answer, View, Observation, Opening, ofStream, ownerIn, bookReceive, bookOffer, book, partStart, partEnd}
-use Rattle.isolation.specs.Book.Call.{openStream, closeStream, register, dropWindow, post, receive, offer, takeRead, live, free}
+use Rattle.isolation.specs.Book.Call.{openStream, closeStream, register, dropWindow, post, receive, offer, takeRead, live, free, tick, readGauge}
 use Rattle.isolation.specs.Writers.{Writer, bufferAt, Writes, startOf, lenOf, Has, Apart, target, receiver, Fills}
 use Rattle.isolation.specs.Writers.Writer.{window, buffer}
 use Rattle.isolation.proofs.Calls.{World, Step, Opened, view}
@@ -50,13 +50,13 @@ use Rattle.isolation.proofs.Runs.{Interface, Run}
 use Rattle.holding.proofs.Held.{offered-bytes}
 use Rattle.isolation.proofs.Induction.{run-fit}
 use Rattle.isolation.proofs.Invariants.{reached}
-use Rattle.isolation.proofs.Kept.{picked, opened-keeps, closed-keeps, posted-keeps, taken-keeps, registered-keeps, dropped-keeps, received-keeps, offered-part}
+use Rattle.isolation.proofs.Kept.{picked, opened-keeps, closed-keeps, posted-keeps, taken-keeps, registered-keeps, dropped-keeps, ticked-keeps, received-keeps, offered-part}
 use Rattle.isolation.proofs.Offers.{held-is}
 use Rattle.isolation.proofs.Openings.{opened-fit}
 use Rattle.isolation.proofs.Reachable.{Sound, Placing, Lands, ruled, payloadOf, new-sound, book-sound, reached-sound, write-lands, untagged-lands, judged-lands, placed-where-judged}
 use Rattle.isolation.proofs.Steps.{own, alien}
 use Rattle.isolation.proofs.WellFormed.{Fit}
-use Rattle.isolation.proofs.Writers.{shares-no-byte, opened-apart, closed-apart, taken-apart, dropped-apart, received-apart, offered-apart, registered-apart, posted-apart, new-apart}
+use Rattle.isolation.proofs.Writers.{shares-no-byte, opened-apart, closed-apart, taken-apart, dropped-apart, ticked-apart, received-apart, offered-apart, registered-apart, posted-apart, new-apart}
 
 -- ---- over a run
 book-apart : (A : ℕ) (v : View) → Sound (v .dom) → Apart (v .dom) → (c : Call) → Apart (book A v c .after .dom)
@@ -73,6 +73,8 @@ book-apart A v k p (offer n input size many) =
 book-apart A v k p (takeRead n) = taken-apart (v .dom) k p (n % 4)
 book-apart A v k p (live d) = p
 book-apart A v k p (free d) = p
+book-apart A v k p (tick d) = ticked-apart (v .dom) k p
+book-apart A v k p (readGauge d) = p
 
 -- the writers of a domain lie in its part, and apart
 record Placed (v : View) : Type 0 where
@@ -331,6 +333,8 @@ changed-is-filled o mem rooms {I = I} {w = w} {w₁ = w₁} z r c y w₂ m A hA 
     booked (takeRead n) e = quiet (takeRead n) (taken-keeps d (n % 4) .part) refl
     booked (live i) e = quiet (live i) refl refl
     booked (free i) e = quiet (free i) refl refl
+    booked (tick i) e = quiet (tick i) (ticked-keeps d .part) refl
+    booked (readGauge i) e = quiet (readGauge i) refl refl
 
     stepped : (k : Call) (b : Answer) → Step w₁ k b w₂ → Dec (ownerIn (w₁ .dev) k ≡ A) → Seen k (view A w₂)
     stepped k b s (yes e) = subst (Seen k) (sym (ap (λ (v : Observation Answer). v .after) (own A hA w₁ k b w₂ f e s))) (booked k e)

@@ -1,5 +1,5 @@
--- The twelve worked cases that the paper marks to be proved, a slice of two FPDUs, empty reads, refusal 19 and offers, as one table: what each
--- gives, what it must give, and one test that antt computes over the whole table.
+-- The twelve worked cases that the paper marks to be proved, a slice of two FPDUs, empty reads, refusal 19, offers and a gauge, as one table:
+-- what each gives, what it must give, and one test that antt computes over the whole table.
 -- Assumes nothing.
 use mathlib.Core.Path.{_≡_, refl}
 use mathlib.Core.Bool.{Bool, true, false}
@@ -8,6 +8,7 @@ use Prim.Native.Nat.{ℕ, zero, suc, _+_, _-_, _<_}
 use native.Mathlib.Omega.{arith}
 use native.Mathlib.Nat.{le-of-suc-le-suc, not-suc-le-zero}
 use lib.ListN.{length, getD, take, drop, replicate}
+use lib.Ieee.{add, sub, div, lt, ne, ofInt, toBits}
 use Rattle.wire.specs.Wire.{both, same, put, be16, be32, be64}
 use Rattle.wire.proofs.Laws.{both-true, same-eq}
 use Rattle.mpa.specs.Fpdu.{totalOf, fpduRead, fpduReadOf}
@@ -35,8 +36,11 @@ use Rattle.holding.specs.Offer.{domainReceives, domainReceivesBytes, partsOffer
 use Rattle.holding.specs.declared.OfferAnswer.{OfferAnswer}
 use Rattle.holding.specs.declared.OfferAnswer.the-variants.{Kept, Completed, Ended as OfferEnded, Refused as OfferRefused}
 use Rattle.rnic.specs.Offer.{roomsBytes, offeredOwned, offeredOwnedStore, offeredOwnedRooms, rnicOffered, rnicOfferAnswer, rnicOfferedStore, rnicOfferedRooms}
-use Rattle.rnic.specs.Rnic.{openedRnic, rnicOpened, rnicClosed, rnicPosted, rnicRegistered, rnicDropped, receivedOwned, receivedOwnedStore, rnicReceived, rnicReceivedStore}
+use Rattle.rnic.specs.Rnic.{openedRnic, rnicOpened, rnicClosed, rnicPosted, rnicRegistered, rnicDropped, receivedOwned, receivedOwnedStore, rnicReceived, rnicReceivedStore, rnicTicked, rnicReading}
 use Rattle.rnic.specs.declared.Rnic.{Rnic}
+use Rattle.meter.specs.Gauge.{sampledGauge, readingOf}
+use Rattle.meter.specs.Words.{levelBits}
+use Rattle.calls.specs.Words.{readingWords}
 
 -- an answer in numbers: Wait n; Taken with its total and event; a peer refusal's number, layer, type and code; a local refusal's number
 abbrev code : Answer → List ℕ
@@ -126,6 +130,22 @@ begun n = rnicOffered (device 4) 4096 4 rooms (take n paper) .rnic
 
 abbrev begunRooms : ℕ → List ℕ
 begunRooms n = rnicOfferedRooms (device 4) 4096 4 rooms (take n paper)
+
+-- an 8-byte Send, L set, MSN 1, placed in a buffer of domain 1
+abbrev eight : List ℕ
+eight = be16 26 ++ (0x41 ∷ 0x43 ∷ (be32 0 ++ (be32 0 ++ (be32 1 ++ (be32 0 ++ (1 ∷ 2 ∷ 3 ∷ 4 ∷ 5 ∷ 6 ∷ 7 ∷ 8 ∷ 0 ∷ 0 ∷ 0 ∷ 0 ∷ []))))))
+
+abbrev filled : Rnic
+filled = rnicReceived (rnicPosted (device 4) 4 1100 8 .rnic) 4096 4 eight .rnic
+
+-- n ticks of a domain
+abbrev ticked : ℕ → ℕ → Rnic → Rnic
+ticked d zero b = b
+ticked d (suc n) b = rnicTicked (ticked d n b) d .rnic
+
+-- what its gauge reads as: 12 quiet; 13 steady, 14 falling, with the bits; 0 a refusal
+abbrev reads : Rnic → ℕ → List ℕ
+reads b d = take 3 (readingWords (rnicReading b d))
 
 record Check : Type 0 where
   got : List ℕ
@@ -225,6 +245,22 @@ log =
     ∷ gives (offers (device 4) 4 (9 ∷ rooms) paper) (6 ∷ 2 ∷ [])
     ∷ gives (offers (device 4) 5 rooms paper) (6 ∷ 3 ∷ [])
     ∷ gives (offers (device 4) 16 rooms paper) (6 ∷ 1 ∷ [])
+    -- a gauge: quiet before the first tick; "a first 8" is steady with 8; after a tick that counted nothing 7; after six, under half the peak
+    ∷ gives (reads filled 1) (12 ∷ 0 ∷ 0 ∷ [])
+    ∷ gives (reads (ticked 1 1 filled) 1) (13 ∷ 0x4020000000000000 ∷ 0 ∷ [])
+    ∷ gives (reads (ticked 1 2 filled) 1) (13 ∷ 0x401C000000000000 ∷ 0 ∷ [])
+    ∷ gives (reads (ticked 1 7 filled) 1) (14 ∷ 0x400CB91000000000 ∷ 0x4020000000000000 ∷ [])
+    -- another domain's tick leaves it, and that domain counted nothing
+    ∷ gives (reads (ticked 0 1 filled) 1) (12 ∷ 0 ∷ 0 ∷ [])
+    ∷ gives (reads (ticked 1 1 (ticked 0 1 filled)) 1) (13 ∷ 0x4020000000000000 ∷ 0 ∷ [])
+    ∷ gives (reads (ticked 0 1 filled) 0) (12 ∷ 0 ∷ 0 ∷ [])
+    -- a Write that is offered in two pieces counts its 4 bytes once; a Send that is refused, and a read, count none
+    ∷ gives (reads (ticked 1 1 (rnicOffered (begun 10) 4096 4 (begunRooms 10) (drop 10 paper) .rnic)) 1) (13 ∷ 0x4010000000000000 ∷ 0 ∷ [])
+    ∷ gives (reads (ticked 1 1 (rnicReceived (rnicPosted (device 4) 4 1100 4 .rnic) 4096 4 send .rnic)) 1) (12 ∷ 0 ∷ 0 ∷ [])
+    ∷ gives (reads (ticked 1 1 (rnicReceived (device 4) 4096 4 (request 0 0) .rnic)) 1) (12 ∷ 0 ∷ 0 ∷ [])
+    -- no domain's number: 1
+    ∷ gives (told (rnicTicked filled 4 .outcome)) (1 ∷ [])
+    ∷ gives (reads filled 4) (0 ∷ 1 ∷ 0 ∷ [])
     -- MSN 4,294,967,295 is followed by 0
     ∷ gives (nextMsn 4294967295 ∷ []) (0 ∷ [])
     -- Request, C set, data AB, whole
@@ -238,7 +274,7 @@ all (x ∷ xs) = both (same (x .got) (x .want)) (all xs)
 
 -- the test passes over the whole table
 log-holds : all log ≡ true
-unfolding fpduRead fpduReadOf startupOf inPart inRange windowFits registeredIn registered droppedIn dropped named foundIn wraps spanned posted poppedOf taggedFields untaggedFields taggedRead untaggedRead headerRead segmentRead taggedOf untaggedIn untaggedOf fits placed sendVerdict readVerdict terminateVerdict messageVerdict queueOf opened closed postedOn shares windowShares windowsShare buffersShare streamsShare domainShares lastly domainOpened domainClosed domainPosted domainRegistered domainDropped partsApplied placedFrom appliedBytes partsReceived partsReceivedBytes domainReceived domainReceivedBytes openedRnic rnicOpened rnicClosed rnicPosted rnicRegistered rnicDropped receivedOwned receivedOwnedStore rnicReceived rnicReceivedStore domainReceives domainReceivesBytes neededOf isShort copied roomAfter partsOffered partsOfferedBytes domainOffered domainOfferedBytes offeredOwned offeredOwnedStore offeredOwnedRooms rnicOffered rnicOfferedStore rnicOfferedRooms
+unfolding fpduRead fpduReadOf startupOf inPart inRange windowFits registeredIn registered droppedIn dropped named foundIn wraps spanned posted poppedOf taggedFields untaggedFields taggedRead untaggedRead headerRead segmentRead taggedOf untaggedIn untaggedOf fits placed sendVerdict readVerdict terminateVerdict messageVerdict queueOf opened closed postedOn shares windowShares windowsShare buffersShare streamsShare domainShares lastly domainOpened domainClosed domainPosted domainRegistered domainDropped partsApplied placedFrom appliedBytes partsReceived partsReceivedBytes domainReceived domainReceivedBytes openedRnic rnicOpened rnicClosed rnicPosted rnicRegistered rnicDropped receivedOwned receivedOwnedStore rnicReceived rnicReceivedStore domainReceives domainReceivesBytes neededOf isShort copied roomAfter partsOffered partsOfferedBytes domainOffered domainOfferedBytes offeredOwned offeredOwnedStore offeredOwnedRooms rnicOffered rnicOfferedStore rnicOfferedRooms rnicTicked rnicReading sampledGauge readingOf levelBits add sub div lt ne ofInt toBits
 log-holds = refl
 
 -- so each case gives what it must

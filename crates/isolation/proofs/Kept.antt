@@ -31,7 +31,8 @@ use Rattle.rdmap.specs.declared.stream.Stream.{Stream}
 use Rattle.rdmap.specs.declared.stream.StreamDone.{StreamDone}
 use Rattle.rdmap.specs.declared.stream.StreamClosed.{StreamClosed}
 use Rattle.rdmap.specs.declared.stream.StreamTaken.{StreamTaken}
-use Rattle.domain.specs.Domain.{noStream, streamAt, withWindows, domainOpened, domainClosed, domainPosted, domainTaken, domainRegistered, domainDropped, domainReceived, domainReceivedBytes}
+use Rattle.meter.specs.declared.Meter.{Meter}
+use Rattle.domain.specs.Domain.{noStream, streamAt, withWindows, domainOpened, domainClosed, domainPosted, domainTaken, domainRegistered, domainDropped, domainTicked, meteredOf, domainReceived, domainReceivedBytes}
 use Rattle.domain.specs.Parts.{appliedBytes, placedFrom, partsVerdict, partsJudged, partsPlaced, partsAnswered, partsWhen, partsBytesWhen, partsReceived, partsReceivedBytes, lifted}
 use Rattle.domain.specs.Sharing.{writes, domainShares, unlessShared, lastly}
 use Rattle.domain.specs.declared.Domain.{Domain}
@@ -83,12 +84,14 @@ pub record Steady (d d′ : Domain) : Type 0 where
   pub part : d′ .part ≡ d .part
   pub streams : (slot : ℕ) → Settles (streamAt d slot) (streamAt d′ slot)
 
--- a domain that stays; one stream exchanged, whatever becomes of the windows
+-- a domain that stays; one stream exchanged, whatever becomes of the windows and of the meter
 steady : (d : Domain) → Steady d d
 steady d = record { part = refl; streams = λ slot. unmoved (streamAt d slot) }
 
-exchanged : (d : Domain) (slot : ℕ) (t : Stream) (ws : List Window) → Settles (streamAt d slot) t → Steady d (record { part = d .part; windows = ws; streams = set (d .streams) slot t })
-exchanged d slot t ws k = record { part = refl; streams = λ j. go j (decLt slot (length (d .streams))) (decEq j slot) }
+exchanged :
+    (d : Domain) (slot : ℕ) (t : Stream) (ws : List Window) (m : Meter) → Settles (streamAt d slot) t →
+    Steady d (record { part = d .part; windows = ws; streams = set (d .streams) slot t; meter = m })
+exchanged d slot t ws m k = record { part = refl; streams = λ j. go j (decLt slot (length (d .streams))) (decEq j slot) }
   where
     go : (j : ℕ) → Dec (slot < length (d .streams)) → Dec (j ≡ slot) → Settles (streamAt d j) (getD (set (d .streams) slot t) j noStream)
     go j (no h) e = subst (λ (l : List Stream). Settles (streamAt d j) (getD l j noStream)) (sym (set-out (d .streams) slot t (omega arith))) (unmoved (streamAt d j))
@@ -144,25 +147,25 @@ module _ (d : Domain) where
   pub opened-keeps : (slot : ℕ) (crc : Bool) → Steady d (domainOpened d slot crc .domain)
   unfolding domainOpened
   opened-keeps slot crc =
-      picked (λ (r : DomainDone). Steady d (r .domain)) (leb slot 3) _ _ (λ e. exchanged d slot _ (d .windows) (opened-settles (streamAt d slot) crc)) (λ e. steady d)
+      picked (λ (r : DomainDone). Steady d (r .domain)) (leb slot 3) _ _ (λ e. exchanged d slot _ (d .windows) (d .meter) (opened-settles (streamAt d slot) crc)) (λ e. steady d)
 
   pub closed-keeps : (slot : ℕ) → Steady d (domainClosed d slot .domain)
   unfolding domainClosed
   closed-keeps slot =
-      picked (λ (r : DomainClosed). Steady d (r .domain)) (leb slot 3) _ _ (λ e. exchanged d slot _ (d .windows) (closed-settles (streamAt d slot))) (λ e. steady d)
+      picked (λ (r : DomainClosed). Steady d (r .domain)) (leb slot 3) _ _ (λ e. exchanged d slot _ (d .windows) (d .meter) (closed-settles (streamAt d slot))) (λ e. steady d)
 
   pub posted-keeps : (slot start len : ℕ) → Steady d (domainPosted d slot start len .domain)
   unfolding domainPosted
   posted-keeps slot start len =
       picked (λ (r : DomainDone). Steady d (r .domain)) (leb slot 3) _ _
-      (λ e. let z = exchanged d slot _ (d .windows) (posted-settles (streamAt d slot) (d .part) start len) in
+      (λ e. let z = exchanged d slot _ (d .windows) (d .meter) (posted-settles (streamAt d slot) (d .part) start len) in
       lastly-holds (Steady d) (domainShares d start len) d _ (steady d) (λ e f. z) (λ n e. z))
       (λ e. steady d)
 
   pub taken-keeps : (slot : ℕ) → Steady d (domainTaken d slot .domain)
   unfolding domainTaken
   taken-keeps slot =
-      picked (λ (r : DomainTaken). Steady d (r .domain)) (leb slot 3) _ _ (λ e. exchanged d slot _ (d .windows) (taken-settles (streamAt d slot))) (λ e. steady d)
+      picked (λ (r : DomainTaken). Steady d (r .domain)) (leb slot 3) _ _ (λ e. exchanged d slot _ (d .windows) (d .meter) (taken-settles (streamAt d slot))) (λ e. steady d)
 
   -- the windows alone
   windowed : (ws : List Window) → Steady d (withWindows d ws)
@@ -177,25 +180,29 @@ module _ (d : Domain) where
   unfolding domainDropped
   dropped-keeps slot = windowed _
 
+  -- the meter alone
+  pub ticked-keeps : Steady d (domainTicked d)
+  ticked-keeps = record { part = refl; streams = λ slot. unmoved (streamAt d slot) }
+
   -- receive is refused with 16 where it would lose held bytes
   pub received-keeps : (number slot : ℕ) (input : List ℕ) → Steady d (domainReceives d number slot input .domain)
   unfolding domainReceives domainReceived
   received-keeps number slot input =
       picked (λ (r : Received). Steady d (r .domain)) (holdsAt d slot) _ _ (λ e. steady d)
-      (λ e. picked (λ (r : Received). Steady d (r .domain)) (leb slot 3) (lifted d slot (partsReceived (d .windows) number (streamAt d slot) input)) _
-      (λ q. exchanged d slot _ _ (received-settles (streamAt d slot) (d .windows) number input (ap (λ (b : Bool). both b (holds (streamAt d slot))) (sym q) ∙ e)))
+      (λ e. picked (λ (r : Received). Steady d (r .domain)) (leb slot 3) (meteredOf (segmentRead (streamAt d slot .framing .crc) input) (lifted d slot (partsReceived (d .windows) number (streamAt d slot) input))) _
+      (λ q. exchanged d slot _ _ _ (received-settles (streamAt d slot) (d .windows) number input (ap (λ (b : Bool). both b (holds (streamAt d slot))) (sym q) ∙ e)))
       (λ q. steady d))
 
   -- an offer's own stream may hold more; the part stays, and every other stream
   pub offered-part : (number slot : ℕ) (held input : List ℕ) → domainOffered d number slot held input .domain .part ≡ d .part
   unfolding domainOffered
   offered-part number slot held input =
-      picked (λ (r : Received). r .domain .part ≡ d .part) (leb slot 3) (lifted d slot (partsOffered (d .windows) number (streamAt d slot) held input)) _ (λ e. refl) (λ e. refl)
+      picked (λ (r : Received). r .domain .part ≡ d .part) (leb slot 3) (meteredOf (segmentRead (streamAt d slot .framing .crc) (held ++ input)) (lifted d slot (partsOffered (d .windows) number (streamAt d slot) held input))) _ (λ e. refl) (λ e. refl)
 
   pub offered-others : (number slot : ℕ) (held input : List ℕ) (j : ℕ) → j ≢ slot → streamAt (domainOffered d number slot held input .domain) j ≡ streamAt d j
   unfolding domainOffered
   offered-others number slot held input j ne =
-      picked (λ (r : Received). streamAt (r .domain) j ≡ streamAt d j) (leb slot 3) (lifted d slot (partsOffered (d .windows) number (streamAt d slot) held input)) _
+      picked (λ (r : Received). streamAt (r .domain) j ≡ streamAt d j) (leb slot 3) (meteredOf (segmentRead (streamAt d slot .framing .crc) (held ++ input)) (lifted d slot (partsOffered (d .windows) number (streamAt d slot) held input))) _
       (λ e. getD-set-other (d .streams) slot j _ noStream ne) (λ e. refl)
 
 -- ---- as many bytes

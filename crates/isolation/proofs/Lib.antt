@@ -1,6 +1,7 @@
 pub mod Apart
 pub mod Calls
 pub mod Cases
+pub mod Gauges
 pub mod Induction
 pub mod Invariants
 pub mod Isolation

@@ -8,14 +8,16 @@ use lib.ListN.{length}
 use lib.Dec.{leb, eqb}
 use Rattle.wire.specs.Wire.{pick}
 use Rattle.memory.specs.Window.{liveCount, lowestFree}
-use Rattle.domain.specs.Domain.{domainOpened, domainClosed, domainPosted, domainTaken, domainRegistered, domainDropped}
+use Rattle.memory.specs.declared.part.Outcome.the-variants.{Done}
+use Rattle.domain.specs.Domain.{domainOpened, domainClosed, domainPosted, domainTaken, domainRegistered, domainDropped, domainTicked, domainReading}
 use Rattle.domain.specs.declared.Answer.the-variants.{Refused}
 use Rattle.memory.specs.Part.{partFits}
 use Rattle.holding.specs.Offer.{domainReceives, domainReceivesBytes, streamRoom, domainOffered, domainOfferedBytes}
-use Rattle.rnic.specs.Rnic.{domainAt, withDomain, bytesOf, withBytes, rnicOpened, rnicClosed, rnicPosted, rnicTaken, rnicRegistered, rnicDropped, rnicReceived, rnicReceivedStore, receivedOwned, receivedOwnedStore, rnicLive, rnicFree}
+use Rattle.rnic.specs.Rnic.{domainAt, withDomain, bytesOf, withBytes, rnicOpened, rnicClosed, rnicPosted, rnicTaken, rnicRegistered, rnicDropped, rnicReceived, rnicReceivedStore, receivedOwned, receivedOwnedStore, rnicLive, rnicFree, rnicTicked, rnicReading}
 use Rattle.rnic.specs.Offer.{roomOf, withRoom, streamNumbered, heldBytes, offerAsked, offeredOwned, offeredOwnedStore, offeredOwnedRooms, rnicOffered, rnicOfferedStore, rnicOfferedRooms}
 use Rattle.rnic.specs.declared.Rnic.{Rnic}
 use Rattle.rnic.specs.declared.Count.the-variants.{Counted}
+use Rattle.rnic.specs.declared.ReadingAnswer.the-variants.{Reads}
 
 either-same : (t : Bool) (l : List ℕ) → pick t l l ≡ l
 either-same true l = refl
@@ -79,6 +81,18 @@ module _ (b : Rnic) (n : ℕ) where
   pub free-in : leb n 3 ≡ true → rnicFree b n ≡ Counted (lowestFree (domainAt b n .windows))
   unfolding rnicFree
   free-in e = simp e
+
+  pub ticked-in : leb n 3 ≡ true → rnicTicked b n ≡ record { outcome = Done; rnic = withDomain b n (domainTicked (domainAt b n)) }
+  unfolding rnicTicked
+  ticked-in e = simp e
+
+  pub ticked-out : leb n 3 ≡ false → rnicTicked b n .rnic ≡ b
+  unfolding rnicTicked
+  ticked-out e = simp e
+
+  pub reading-in : leb n 3 ≡ true → rnicReading b n ≡ Reads (domainReading (domainAt b n))
+  unfolding rnicReading
+  reading-in e = simp e
 
   module _ (input : List ℕ) where
     pub received-in :

@@ -1,5 +1,5 @@
--- What every state that a run reaches has: each live window and each waiting buffer lies in its domain's part, and what a stream holds is
--- short. So the guards of the definitions, which only a malformed state could trip, never fire there, and the paper's rule is the whole truth.
+-- What every state that a run reaches has: each live window and each waiting buffer lies in its domain's part, what a stream holds is
+-- short, and each gauge is well-formed. So the guards of the definitions, which only a malformed state could trip, never fire there, and the paper's rule is the whole truth.
 use Prim.Native.Nat.{ℕ, zero, suc, _+_, _-_, _/_, _%_, _≤_, _<_}
 use mathlib.Core.Path.{_≡_, refl, sym, ap, subst, _∙_}
 use mathlib.Core.Bool.{Bool, true, false}
@@ -9,6 +9,7 @@ use native.Mathlib.Decide.{ℕ-discrete as decEq}
 use lib.ListN.{length, getD, set, drop, replicate, length-set, length-append, length-drop, getD-replicate}
 use lib.Seq.{getD-set-same, getD-set-other}
 use lib.Dec.{leb, ltb, eqb}
+use lib.Ieee.{binary64, toBits}
 use borrow.Author.Tests.{leb-true, le-leb, ltb-true, eqb-true}
 use borrow.Rule.Slice.PartMut.{mid-len}
 use Rattle.wire.specs.Wire.{pick, both, part, put}
@@ -58,7 +59,12 @@ use Rattle.rdmap.specs.declared.stream.Stream.{Stream}
 use Rattle.rdmap.specs.declared.stream.StreamDone.{StreamDone}
 use Rattle.rdmap.specs.declared.stream.StreamClosed.{StreamClosed}
 use Rattle.rdmap.specs.declared.stream.StreamTaken.{StreamTaken}
-use Rattle.domain.specs.Domain.{noStream, streamAt, withStream, withWindows, newDomain, domainOpened, domainClosed, domainPosted, domainTaken, domainRegistered, domainDropped, domainReceived, domainReceivedBytes}
+use Rattle.meter.specs.Invariant.{MeterWellFormed}
+use Rattle.meter.specs.Words.{levelBits}
+use Rattle.meter.specs.declared.Meter.{Meter}
+use Rattle.meter.proofs.Bits.{level-bits}
+use Rattle.meter.proofs.Invariant.{new-well-formed}
+use Rattle.domain.specs.Domain.{noStream, streamAt, withStream, withWindows, withMeter, newDomain, domainOpened, domainClosed, domainPosted, domainTaken, domainRegistered, domainDropped, domainTicked, meterBy, segmentCount, meteredOf, domainReceived, domainReceivedBytes}
 use Rattle.domain.specs.Parts.{appliedBytes, placedFrom, partsApplied, taggedVerdict, partsVerdict, partsJudged, partsPlaced, partsAnswered, partsWhen, partsBytesWhen, partsReceived, partsReceivedBytes, killed, lifted}
 use Rattle.domain.specs.Sharing.{writes, domainShares}
 use Rattle.domain.specs.declared.Domain.{Domain}
@@ -75,12 +81,13 @@ use Rattle.holding.specs.Offer.{isOpen, holdsAt, domainReceives, domainReceives
 use Rattle.rnic.specs.Rnic.{domainAt, bytesOf}
 use Rattle.rnic.specs.Offer.{roomsBytes}
 use Rattle.isolation.specs.Book.{Call, Answer, View, Observation, Opening, bookReceive, bookOffer, book, partStart, partEnd}
-use Rattle.isolation.specs.Book.Call.{openStream, closeStream, register, dropWindow, post, receive, offer, takeRead, live, free}
+use Rattle.isolation.specs.Book.Call.{openStream, closeStream, register, dropWindow, post, receive, offer, takeRead, live, free, tick, readGauge}
 use Rattle.isolation.proofs.Calls.{World, Opened, view}
 use Rattle.isolation.proofs.Runs.{Interface, Run}
 use Rattle.holding.proofs.Held.{offered-by, offered-bytes}
 use Rattle.isolation.proofs.Induction.{run-fit}
 use Rattle.isolation.proofs.Invariants.{reached}
+use Rattle.isolation.proofs.Gauges.{book-metered}
 use Rattle.isolation.proofs.Kept.{picked, lastly-holds}
 use Rattle.isolation.proofs.Openings.{opened-fit}
 use Rattle.isolation.proofs.Short.{HeldShort, AllShort, new-short, book-short}
@@ -221,6 +228,9 @@ with-stream d slot s k h w = record {
 with-windows : (d : Domain) (ws : List Window) → Sound d → WindowsIn (d .part) ws → Sound (withWindows d ws)
 with-windows d ws k all = record { windowed = all; four = k .four; waiting = k .waiting }
 
+with-meter : (d : Domain) (m : Meter) → Sound d → Sound (withMeter d m)
+with-meter d m k = record { windowed = k .windowed; four = k .four; waiting = k .waiting }
+
 pub slot-lt : (slot : ℕ) → leb slot 3 ≡ true → slot < 4
 slot-lt slot e = omega (arith, leb-true slot 3 e)
 
@@ -262,29 +272,36 @@ module _ (d : Domain) (k : Sound d) where
   unfolding domainDropped
   dropped-sound slot = with-windows d _ k (dropped-in (d .part) (d .windows) slot (k .windowed))
 
+  pub ticked-sound : Sound (domainTicked d)
+  ticked-sound = with-meter d _ k
+
   -- ---- receive
   killed-in : (inv : Invalidate) → WindowsIn (d .part) (killed inv (d .windows))
   killed-in NoStag = k .windowed
   killed-in (Stag i stag) = dropped-in (d .part) (d .windows) i (k .windowed)
 
   -- what receive or an offer makes of the stream of a slot
-  lifted-sound : (slot : ℕ) (r : PartsReceived) → slot < 4 → Waits (d .part) (r .stream .sends .buffers) → Sound (lifted d slot r .domain)
-  lifted-sound slot r h w = with-windows (withStream d slot (r .stream)) _ (with-stream d slot (r .stream) k h w) (killed-in (r .invalidate))
+  lifted-sound : (slot : ℕ) (x : SegmentRead) (r : PartsReceived) → slot < 4 → Waits (d .part) (r .stream .sends .buffers) → Sound (meteredOf x (lifted d slot r) .domain)
+  lifted-sound slot x r h w =
+      with-meter (lifted d slot r .domain) (meterBy (r .answer) (segmentCount x) (d .meter))
+      (with-windows (withStream d slot (r .stream)) _ (with-stream d slot (r .stream) k h w) (killed-in (r .invalidate)))
 
   pub received-sound : (number slot : ℕ) (input : List ℕ) → Sound (domainReceives d number slot input .domain)
   unfolding domainReceives domainReceived
   received-sound number slot input =
       let r = partsReceived (d .windows) number (streamAt d slot) input in
+      let seg = segmentRead (streamAt d slot .framing .crc) input in
       picked (λ (x : Received). Sound (x .domain)) (holdsAt d slot) _ _ (λ e. k)
-      (λ q. picked (λ (x : Received). Sound (x .domain)) (leb slot 3) (lifted d slot r) _
-      (λ e. let h = slot-lt slot e in lifted-sound slot r h (received-waits (d .part) (streamAt d slot) (k .waiting slot h) (d .windows) number input)) (λ e. k))
+      (λ q. picked (λ (x : Received). Sound (x .domain)) (leb slot 3) (meteredOf seg (lifted d slot r)) _
+      (λ e. let h = slot-lt slot e in lifted-sound slot seg r h (received-waits (d .part) (streamAt d slot) (k .waiting slot h) (d .windows) number input)) (λ e. k))
 
   pub offered-sound : (number slot : ℕ) (held input : List ℕ) → Sound (domainOffered d number slot held input .domain)
   unfolding domainOffered
   offered-sound number slot held input =
       let r = partsOffered (d .windows) number (streamAt d slot) held input in
-      picked (λ (x : Received). Sound (x .domain)) (leb slot 3) (lifted d slot r) _
-      (λ e. let h = slot-lt slot e in lifted-sound slot r h (offered-waits (d .part) (d .windows) number (streamAt d slot) held input (k .waiting slot h))) (λ e. k)
+      let seg = segmentRead (streamAt d slot .framing .crc) (held ++ input) in
+      picked (λ (x : Received). Sound (x .domain)) (leb slot 3) (meteredOf seg (lifted d slot r)) _
+      (λ e. let h = slot-lt slot e in lifted-sound slot seg r h (offered-waits (d .part) (d .windows) number (streamAt d slot) held input (k .waiting slot h))) (λ e. k)
 
 -- ---- over a run
 pub book-sound : (A : ℕ) (v : View) → Sound (v .dom) → (c : Call) → Sound (book A v c .after .dom)
@@ -301,18 +318,22 @@ book-sound A v k (offer n input size many) =
 book-sound A v k (takeRead n) = taken-sound (v .dom) k (n % 4)
 book-sound A v k (live d) = k
 book-sound A v k (free d) = k
+book-sound A v k (tick d) = ticked-sound (v .dom) k
+book-sound A v k (readGauge d) = k
 
 -- what a domain has in every world that a run from an opening reaches
 record Reached (v : View) : Type 0 where
   sound : Sound (v .dom)
   short : AllShort (v .dom) (v .held)
+  metered : MeterWellFormed (v .dom .meter)
 
 run-reached :
     (o : Opening) (mem rooms : List ℕ) {I : Interface} {w w₁ : World} {cs : List (I .Request)} → Opened o mem rooms w → Run I w cs w₁ →
     (A : ℕ) → A < 4 → Reached (view A w₁)
 run-reached o mem rooms s r A hA =
-    reached Reached A (λ v c k. record { sound = book-sound A v (k .sound) c; short = book-short A v (k .sound .four) (k .short) c }) o mem rooms s r hA
-    (record { sound = new-sound (partStart A o) (partEnd A o); short = new-short (partStart A o) (partEnd A o) })
+    reached Reached A
+    (λ v c k. record { sound = book-sound A v (k .sound) c; short = book-short A v (k .sound .four) (k .short) c; metered = book-metered A v (k .metered) c }) o mem rooms s r hA
+    (record { sound = new-sound (partStart A o) (partEnd A o); short = new-short (partStart A o) (partEnd A o); metered = new-well-formed })
 
 pub reached-sound :
     (o : Opening) (mem rooms : List ℕ) {I : Interface} {w w₁ : World} {cs : List (I .Request)} → Opened o mem rooms w → Run I w cs w₁ →
@@ -554,7 +575,8 @@ module _ (d : Domain) (k : Sound d) (number slot : ℕ) (h : slot < 4) (bytes : 
   offered-by-rule held input = offered-bytes d number slot held input bytes ∙ placed-where-judged d k number slot h (held ++ input) bytes long ready
 
 -- ---- every world that a run from an opening reaches: no domain's part lies out of the store, and a payload that is judged to be
--- placed lies in the part, so that what becomes of the bytes is the rule with no guard. What a stream holds fits its room
+-- placed lies in the part, so that what becomes of the bytes is the rule with no guard. What a stream holds fits its room. A gauge has no
+-- NaN, nothing infinite and nothing negative, so that the words of a reading are its floats' own bits
 pub record Unguarded (w : World) (A : ℕ) : Type 0 where
   pub sound : Sound (domainAt (w .dev) A)
   pub in-store : partFits (domainAt (w .dev) A .part) (length (w .mem)) ≡ true
@@ -562,6 +584,9 @@ pub record Unguarded (w : World) (A : ℕ) : Type 0 where
   pub in-part :
       (slot : ℕ) → slot < 4 → (input : List ℕ) (s : SegmentRead) → s ≡ segmentRead (streamAt (domainAt (w .dev) A) slot .framing .crc) input →
       Lands (domainAt (w .dev) A .part) (partsVerdict (domainAt (w .dev) A .windows) A (streamAt (domainAt (w .dev) A) slot) input s) (length (payloadOf input s))
+  pub metered : MeterWellFormed (domainAt (w .dev) A .meter)
+  pub level-bits : levelBits (domainAt (w .dev) A .meter .gauge .level) ≡ toBits binary64 (domainAt (w .dev) A .meter .gauge .level)
+  pub peak-bits : levelBits (domainAt (w .dev) A .meter .gauge .peak) ≡ toBits binary64 (domainAt (w .dev) A .meter .gauge .peak)
   -- receive on an open stream that holds nothing
   pub by-rule :
       (slot : ℕ) → slot < 4 → (input : List ℕ) → readiness (streamAt (domainAt (w .dev) A) slot .phase) ≡ Ready → view A w .held slot ≡ [] →
@@ -586,6 +611,9 @@ guards-never-fire o mem rooms {I = I} {w = w} {w₁ = w₁} s r A hA =
       in-store = part-fits w₁ f A hA (length (w₁ .mem)) refl;
       held-short = k .short;
       in-part = λ slot h input. judged-lands d (k .sound) A slot h input;
+      metered = k .metered;
+      level-bits = level-bits (d .meter .gauge .level) (k .metered .gauge .finite .level);
+      peak-bits = level-bits (d .meter .gauge .peak) (k .metered .gauge .finite .peak);
       by-rule = λ slot h input ready e. received-by-rule d (k .sound) A slot h bytes long ready input (sym (k .short slot h .counted) ∙ ap length e);
       offered-by-rule = λ slot h input ready. offered-by-rule d (k .sound) A slot h bytes long ready (view A w₁ .held slot) input;
     }

@@ -12,18 +12,20 @@ use borrow.Author.Tests.{le-leb, eqb-true, eqb-false}
 use Rattle.wire.specs.Wire.{pick, both}
 use Rattle.rdmap.specs.Stream.{holding}
 use Rattle.rdmap.specs.declared.stream.Stream.{Stream}
-use Rattle.domain.specs.Domain.{noStream, streamAt, newDomain}
+use Rattle.ddp.specs.Segment.{segmentRead}
+use Rattle.domain.specs.Domain.{noStream, streamAt, newDomain, meteredOf}
 use Rattle.domain.specs.Parts.{lifted}
 use Rattle.domain.specs.declared.Answer.the-variants.{Refused}
 use Rattle.domain.specs.declared.Domain.{Domain}
+use Rattle.domain.specs.declared.Received.{Received}
 use Rattle.domain.specs.declared.parts.PartsReceived.{PartsReceived}
 use Rattle.cuts.specs.Received.{Short}
 use Rattle.holding.specs.Offer.{isOpen, heldOf, partsOffered, domainOffered, domainOfferedHeld}
 use Rattle.rnic.specs.Offer.{roomsBytes}
 use Rattle.isolation.specs.Book.{Call, Answer, View, Observation, heldBy, bookReceive, bookOffer, book}
-use Rattle.isolation.specs.Book.Call.{openStream, closeStream, register, dropWindow, post, receive, offer, takeRead, live, free}
+use Rattle.isolation.specs.Book.Call.{openStream, closeStream, register, dropWindow, post, receive, offer, takeRead, live, free, tick, readGauge}
 use Rattle.holding.proofs.Held.{Waited, offered-by, judged-empties}
-use Rattle.isolation.proofs.Kept.{picked, Settles, Steady, opened-keeps, closed-keeps, posted-keeps, taken-keeps, registered-keeps, dropped-keeps, received-keeps, offered-others}
+use Rattle.isolation.proofs.Kept.{picked, Settles, Steady, opened-keeps, closed-keeps, posted-keeps, taken-keeps, registered-keeps, dropped-keeps, ticked-keeps, received-keeps, offered-others}
 use Rattle.isolation.proofs.Kept.Settles.{empties, stays}
 use Rattle.isolation.proofs.Openings.{none-held}
 
@@ -79,7 +81,7 @@ module _ (d : Domain) (four : length (d .streams) ≡ 4) (held : ℕ → List �
   own-short : HeldShort (streamAt (domainOffered d number slot h input .domain) slot) (domainOfferedHeld d number slot h input)
   unfolding domainOffered domainOfferedHeld
   own-short =
-      subst (λ (b : Bool). HeldShort (streamAt (pick b (lifted d slot r) (record { answer = Refused 1; domain = d }) .domain) slot) (heldOf h input (pick b (lifted d slot r) (record { answer = Refused 1; domain = d }) .answer)))
+      subst (λ (b : Bool). HeldShort (streamAt (pick b x (record { answer = Refused 1; domain = d }) .domain) slot) (heldOf h input (pick b x (record { answer = Refused 1; domain = d }) .answer)))
       (sym (le-leb slot 3 (omega (arith, l))))
       (subst (λ (t : Stream). HeldShort t (heldOf h input (r .answer))) (sym (getD-set-same (d .streams) slot (r .stream) noStream (omega (arith, l, four))))
       (offered-by (λ (x : PartsReceived). HeldShort (x .stream) (heldOf h input (x .answer))) (d .windows) number (streamAt d slot) h input (λ n o. k slot l) (λ n o w. waiting-short (streamAt d slot) h input o w)
@@ -87,6 +89,9 @@ module _ (d : Domain) (four : length (d .streams) ≡ 4) (held : ℕ → List �
     where
       r : PartsReceived
       r = partsOffered (d .windows) number (streamAt d slot) h input
+
+      x : Received
+      x = meteredOf (segmentRead (streamAt d slot .framing .crc) (h ++ input)) (lifted d slot r)
 
   pub offered-short : AllShort (domainOffered d number slot h input .domain) (λ j. pick (eqb j slot) (domainOfferedHeld d number slot h input) (held j))
   offered-short j hj =
@@ -110,3 +115,5 @@ book-short A v four k (offer n input size many) =
 book-short A v four k (takeRead n) = steady-short (v .dom) _ (v .held) k (taken-keeps (v .dom) (n % 4))
 book-short A v four k (live d) = k
 book-short A v four k (free d) = k
+book-short A v four k (tick d) = steady-short (v .dom) _ (v .held) k (ticked-keeps (v .dom))
+book-short A v four k (readGauge d) = k

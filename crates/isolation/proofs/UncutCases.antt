@@ -19,6 +19,7 @@ use Rattle.rdmap.specs.Framing.{newFraming}
 use Rattle.rdmap.specs.Read.{emptyReads}
 use Rattle.rdmap.specs.Stream.{closedStream}
 use Rattle.rdmap.specs.Terminates.{emptyTerminates}
+use Rattle.meter.specs.Gauge.{newMeter}
 use Rattle.domain.specs.Parts.{partsApplied, placedFrom, appliedBytes, partsReceived, partsReceivedBytes}
 use Rattle.domain.specs.declared.Event.the-variants.{Sent, Terminated}
 use Rattle.cuts.specs.Received.{Report}
@@ -46,6 +47,7 @@ start = record {
       reads = emptyReads 1;
       terminates = emptyTerminates 1;
     });
+    meter = newMeter;
   };
   bytes = replicate 64 0;
   held = λ slot. [];

@@ -13,9 +13,11 @@ use Rattle.domain.specs.declared.Event.the-variants.{NoEvent, Sent, SentInvalid
 use Rattle.domain.specs.declared.Answer.the-variants.{Wait, Taken, Ended, Refused}
 use Rattle.holding.specs.declared.OfferAnswer.the-variants.{Kept, Completed, Ended as OfferEnded, Refused as NotOffered}
 use Rattle.rnic.specs.declared.Count.the-variants.{Counted, Refused as NotCounted}
+use Rattle.rnic.specs.declared.ReadingAnswer.the-variants.{Reads, Refused as NotRead}
+use Rattle.meter.specs.declared.gauge.Reading.the-variants.{Quiet, Steady, Falling}
 use Rattle.cuts.specs.Received.{Report}
 use Rattle.isolation.specs.Book.{Call, Answer, View, Observation, Opening, book, bookTrace, bookView}
-use Rattle.isolation.specs.Book.Answer.{done, closed, received, offered, taken, counted}
+use Rattle.isolation.specs.Book.Answer.{done, closed, received, offered, taken, counted, gaugeRead}
 use Rattle.isolation.specs.Number.{replyWords}
 use Rattle.isolation.specs.Uncut.{reportsOf, reportsInWords, eventsIn, bookEvents, hasEnd, uncut, HoldsPart, Cut, SameFor, Over}
 use Rattle.isolation.proofs.Calls.{World, view}
@@ -168,6 +170,10 @@ words-exact (taken (Read r)) = refl
 words-exact (taken (NotTaken k)) = refl
 words-exact (counted (Counted n)) = refl
 words-exact (counted (NotCounted k)) = refl
+words-exact (gaugeRead (Reads Quiet)) = refl
+words-exact (gaugeRead (Reads (Steady level))) = refl
+words-exact (gaugeRead (Reads (Falling level peak))) = refl
+words-exact (gaugeRead (NotRead k)) = refl
 
 abbrev pub word-reports : Reporting numbers
 word-reports = record { reports = reportsInWords; exact = words-exact }

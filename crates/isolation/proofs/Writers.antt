@@ -23,6 +23,7 @@ use Rattle.memory.specs.declared.buffer.Posted.{Posted}
 use Rattle.memory.specs.declared.window.Window.{Window}
 use Rattle.memory.specs.declared.window.WindowDone.{WindowDone}
 use Rattle.ddp.specs.Segment.{segmentRead}
+use Rattle.ddp.specs.declared.segment.SegmentRead.{SegmentRead}
 use Rattle.rdmap.specs.Phase.{isClosed, readiness}
 use Rattle.rdmap.specs.Sends.{noBuffers}
 use Rattle.rdmap.specs.Stream.{closedStream, withSends, holding, opened, closed, postedWhen, postedOn, takenWhen, takenFrom}
@@ -36,7 +37,8 @@ use Rattle.rdmap.specs.declared.stream.Stream.{Stream}
 use Rattle.rdmap.specs.declared.stream.StreamDone.{StreamDone}
 use Rattle.rdmap.specs.declared.stream.StreamClosed.{StreamClosed}
 use Rattle.rdmap.specs.declared.stream.StreamTaken.{StreamTaken}
-use Rattle.domain.specs.Domain.{noStream, streamAt, withStream, withWindows, newDomain, domainOpened, domainClosed, domainPosted, domainTaken, domainRegistered, domainDropped, domainReceived}
+use Rattle.meter.specs.declared.Meter.{Meter}
+use Rattle.domain.specs.Domain.{noStream, streamAt, withStream, withWindows, withMeter, newDomain, domainOpened, domainClosed, domainPosted, domainTaken, domainRegistered, domainDropped, domainTicked, meterBy, segmentCount, meteredOf, domainReceived}
 use Rattle.domain.specs.Parts.{partsApplied, partsJudged, partsAnswered, partsWhen, partsReceived, killed, lifted}
 use Rattle.domain.specs.Sharing.{either, shares, writes, writable, windowShares, windowsShare, waiting, buffersShare, streamsShare, domainShares, lastly}
 use Rattle.domain.specs.declared.Domain.{Domain}
@@ -378,6 +380,10 @@ killed-fewer : (d : Domain) (inv : Invalidate) → Fewer d (withWindows d (kille
 killed-fewer d NoStag = windows-fewer d (d .windows) (λ i e. refl)
 killed-fewer d (Stag i stag) = dropped-fewer d i
 
+-- a meter is no writer
+meter-fewer : (d : Domain) (m : Meter) → Fewer d (withMeter d m)
+meter-fewer d m = record { windows = λ i e. refl; gone = λ j. 0; buffers = λ j. shifted-same (buffersOf d j) }
+
 -- ---- registering, by its tests
 abbrev liveOf : ℕ → ℕ → ℕ → ℕ → ℕ → Window
 liveOf key base len place rights = record { live = true; key = key; rights = rights; place = place; len = len; base = base }
@@ -541,9 +547,16 @@ module _ (d : Domain) (k : Sound d) (p : Apart d) where
   unfolding domainDropped
   dropped-apart slot = fewer-apart d _ (dropped-fewer d slot) p
 
+  -- and a tick
+  pub ticked-apart : Apart (domainTicked d)
+  ticked-apart = fewer-apart d _ (meter-fewer d _) p
+
   -- and receiving, at once or by offers: a buffer is used, a window invalidated
-  lifted-apart : (slot : ℕ) (r : PartsReceived) → slot < 4 → Less (streamAt d slot) (r .stream) → Apart (lifted d slot r .domain)
-  lifted-apart slot r h l = let s = withStream d slot (r .stream) in fewer-apart s _ (killed-fewer s (r .invalidate)) (stream-apart slot h (r .stream) l)
+  lifted-apart : (slot : ℕ) (x : SegmentRead) (r : PartsReceived) → slot < 4 → Less (streamAt d slot) (r .stream) → Apart (meteredOf x (lifted d slot r) .domain)
+  lifted-apart slot x r h l =
+      let s : Domain = withStream d slot (r .stream) in
+      let t : Domain = lifted d slot r .domain in
+      fewer-apart t _ (meter-fewer t (meterBy (r .answer) (segmentCount x) (d .meter))) (fewer-apart s _ (killed-fewer s (r .invalidate)) (stream-apart slot h (r .stream) l))
 
   few : (slot : ℕ) → slot < 4 → buffersOf d slot .count ≤ length (buffersOf d slot .entries)
   few slot h = omega (arith, k .waiting slot h .few, k .waiting slot h .long)
@@ -552,16 +565,18 @@ module _ (d : Domain) (k : Sound d) (p : Apart d) where
   unfolding domainReceives domainReceived
   received-apart number slot input =
       let r = partsReceived (d .windows) number (streamAt d slot) input in
+      let seg = segmentRead (streamAt d slot .framing .crc) input in
       picked (λ (x : Received). Apart (x .domain)) (holdsAt d slot) _ _ (λ e. p)
-      (λ q. picked (λ (x : Received). Apart (x .domain)) (leb slot 3) (lifted d slot r) _
-      (λ e. let h = slot-lt slot e in lifted-apart slot r h (received-less (streamAt d slot) (few slot h) (d .windows) number input)) (λ e. p))
+      (λ q. picked (λ (x : Received). Apart (x .domain)) (leb slot 3) (meteredOf seg (lifted d slot r)) _
+      (λ e. let h = slot-lt slot e in lifted-apart slot seg r h (received-less (streamAt d slot) (few slot h) (d .windows) number input)) (λ e. p))
 
   pub offered-apart : (number slot : ℕ) (held input : List ℕ) → Apart (domainOffered d number slot held input .domain)
   unfolding domainOffered
   offered-apart number slot held input =
       let r = partsOffered (d .windows) number (streamAt d slot) held input in
-      picked (λ (x : Received). Apart (x .domain)) (leb slot 3) (lifted d slot r) _
-      (λ e. let h = slot-lt slot e in lifted-apart slot r h (offered-less (streamAt d slot) (few slot h) (d .windows) number held input)) (λ e. p)
+      let seg = segmentRead (streamAt d slot .framing .crc) (held ++ input) in
+      picked (λ (x : Received). Apart (x .domain)) (leb slot 3) (meteredOf seg (lifted d slot r)) _
+      (λ e. let h = slot-lt slot e in lifted-apart slot seg r h (offered-less (streamAt d slot) (few slot h) (d .windows) number held input)) (λ e. p)
 
   -- a window with the write right that shares a byte with a writer is refused, so what is registered shares none
   pub registered-apart : (slot key base len place rights : ℕ) → Apart (domainRegistered d slot key base len place rights .domain)

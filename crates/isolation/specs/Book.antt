@@ -9,9 +9,10 @@ use borrow.Rule.Slice.PartMut.{midOf}
 use Rattle.wire.specs.Wire.{pick, both}
 use Rattle.memory.specs.Window.{liveCount, lowestFree}
 use Rattle.memory.specs.declared.part.Outcome.{Outcome}
+use Rattle.memory.specs.declared.part.Outcome.the-variants.{Done}
 use Rattle.rdmap.specs.declared.stream.CloseAnswer.{CloseAnswer}
 use Rattle.rdmap.specs.declared.stream.TakeAnswer.{TakeAnswer}
-use Rattle.domain.specs.Domain.{newDomain, domainOpened, domainClosed, domainPosted, domainTaken, domainRegistered, domainDropped, streamAt}
+use Rattle.domain.specs.Domain.{newDomain, domainOpened, domainClosed, domainPosted, domainTaken, domainRegistered, domainDropped, domainTicked, domainReading, streamAt}
 use Rattle.domain.specs.declared.Answer.{Answer as ReceiveAnswer}
 use Rattle.domain.specs.declared.Answer.the-variants.{Refused}
 use Rattle.domain.specs.declared.Domain.{Domain}
@@ -23,6 +24,8 @@ use Rattle.rnic.specs.Rnic.{inOrder}
 use Rattle.rnic.specs.declared.Rnic.{Rnic}
 use Rattle.rnic.specs.declared.Count.{Count}
 use Rattle.rnic.specs.declared.Count.the-variants.{Counted}
+use Rattle.rnic.specs.declared.ReadingAnswer.{ReadingAnswer}
+use Rattle.rnic.specs.declared.ReadingAnswer.the-variants.{Reads}
 
 -- a call, with its numbers; `receive` with the bytes and the length of the slice lent as the store, `offer` also with that of the slice lent
 -- as the second
@@ -37,6 +40,8 @@ pub data Call : Type 0 where
   takeRead : (n : ℕ) → Call
   live : (d : ℕ) → Call
   free : (d : ℕ) → Call
+  tick : (d : ℕ) → Call
+  readGauge : (d : ℕ) → Call
 
 pub data Answer : Type 0 where
   done : Outcome → Answer
@@ -45,6 +50,7 @@ pub data Answer : Type 0 where
   offered : OfferAnswer → Answer
   taken : TakeAnswer → Answer
   counted : Count → Answer
+  gaugeRead : ReadingAnswer → Answer
 
 -- ---- whom a call is for, made on a device b; 4 is nobody. So far no call's owner turns on the device
 
@@ -70,11 +76,14 @@ ownerIn b (offer n input k m) = ofStream n
 ownerIn b (takeRead n) = ofStream n
 ownerIn b (live d) = ofDomain d
 ownerIn b (free d) = ofDomain d
+-- "A tick names one domain and is that domain's call, as is asking for its reading"
+ownerIn b (tick d) = ofDomain d
+ownerIn b (readGauge d) = ofDomain d
 
 -- ---- what A has and observes
 
--- A's view: the store's length, A's entry, A's bytes of the store, and the bytes that the stream of each slot holds. What else the second
--- slice contains is in nobody's view
+-- A's view: the store's length, A's entry, its gauge included, A's bytes of the store, and the bytes that the stream of each slot holds. What
+-- else the second slice contains is in nobody's view
 pub record View : Type 0 where
   pub size : ℕ
   pub dom : Domain
@@ -135,6 +144,8 @@ book A v (offer n input k m) = pick (both (eqb k (v .size)) (eqb m roomsBytes)) 
 book A v (takeRead n) = entered v (taken (domainTaken (v .dom) (n % 4) .answer)) (domainTaken (v .dom) (n % 4) .domain)
 book A v (live d) = record { answer = counted (Counted (liveCount (v .dom .windows))); after = v }
 book A v (free d) = record { answer = counted (Counted (lowestFree (v .dom .windows))); after = v }
+book A v (tick d) = entered v (done Done) (domainTicked (v .dom))
+book A v (readGauge d) = record { answer = gaugeRead (Reads (domainReading (v .dom))); after = v }
 
 -- A's observations of a list of its calls, one after the other; f is the form in which answers are given
 unfoldable pub bookTrace : {R : Type 0} → (Answer → R) → ℕ → View → List Call → List (Observation R)

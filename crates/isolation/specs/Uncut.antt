@@ -18,7 +18,7 @@ use Rattle.holding.specs.declared.OfferAnswer.the-variants.{Refused as NotOffer
 use Rattle.rnic.specs.Offer.{roomsBytes}
 use Rattle.isolation.specs.Book.{Call, Answer, View, Observation, book, bookTrace, bookView}
 use Rattle.isolation.specs.Book.Call.{offer}
-use Rattle.isolation.specs.Book.Answer.{done, closed, received, offered, taken, counted}
+use Rattle.isolation.specs.Book.Answer.{done, closed, received, offered, taken, counted, gaugeRead}
 
 -- ---- the events
 
@@ -33,6 +33,7 @@ reportsOf (received (Refused k)) = []
 reportsOf (offered a) = eventsOf (answerOf a)
 reportsOf (taken a) = []
 reportsOf (counted n) = []
+reportsOf (gaugeRead a) = []
 
 -- the same, of an answer in words, by the kinds of specs/Words.antt of the crate `calls`
 unfoldable pub reportsInWords : List ℕ → List Report
@@ -81,6 +82,7 @@ restOf (closed a) piece = []
 restOf (received a) piece = []
 restOf (taken a) piece = []
 restOf (counted n) piece = []
+restOf (gaugeRead a) piece = []
 
 -- what is left of the bytes after a call that offered the first c of them
 abbrev pub leftAfter : ℕ → View → ℕ → List ℕ → ℕ → List ℕ

@@ -19,7 +19,7 @@ use Rattle.rnic.specs.Rnic.{domainAt}
 use Rattle.rnic.specs.Offer.{heldBytes}
 use Rattle.rnic.specs.declared.Rnic.{Rnic}
 use Rattle.isolation.specs.Book.{Call, ofStream}
-use Rattle.isolation.specs.Book.Call.{openStream, closeStream, register, dropWindow, post, receive, offer, takeRead, live, free}
+use Rattle.isolation.specs.Book.Call.{openStream, closeStream, register, dropWindow, post, receive, offer, takeRead, live, free, tick, readGauge}
 
 -- the window of a slot, or the buffer that waits as the k-th on the stream of a slot
 pub data Writer : Type 0 where
@@ -82,3 +82,5 @@ Fills b rooms (offer n input k m) A a = (ofStream n ≡ A) × (a ≡ receiver (d
 Fills b rooms (takeRead n) A a = ⊥
 Fills b rooms (live d) A a = ⊥
 Fills b rooms (free d) A a = ⊥
+Fills b rooms (tick d) A a = ⊥
+Fills b rooms (readGauge d) A a = ⊥

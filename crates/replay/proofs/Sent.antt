@@ -13,7 +13,7 @@ use Rattle.command.specs.Args.{lineWords, wordOf, numbersOf}
 use Rattle.command.specs.Frames.{isFrame}
 use Rattle.sums.specs.Sums.{isSum}
 use Rattle.sending.specs.Sending.{messageName, segmentName, isOrder}
-use Rattle.request.specs.Request.{Request, shapeOf, askNumbers, askCall, askDevice, isSilent, requestOf}
+use Rattle.request.specs.Request.{Request, gaugeShape, shapeOf, askNumbers, askCall, askDevice, isSilent, requestOf}
 use Rattle.request.specs.Request.Request.{text}
 
 pick-same : {A : Type 0} (t : Bool) (x y : A) → y ≡ x → pick t x y ≡ x
@@ -31,11 +31,11 @@ named (w ∷ ws) x xs e = λ z. omega arith
 
 module _ (kept room size : ℕ) (ws : List (List ℕ)) where
   message-text : wordOf ws 0 ≡ messageName → askDevice kept room size ws ≡ text
-  unfolding askDevice askCall askNumbers shapeOf
+  unfolding askDevice askCall askNumbers shapeOf gaugeShape
   message-text e = rw e (rw (no-words ws (named ws _ _ e)))
 
   segment-text : wordOf ws 0 ≡ segmentName → askDevice kept room size ws ≡ text
-  unfolding askDevice askCall askNumbers shapeOf
+  unfolding askDevice askCall askNumbers shapeOf gaugeShape
   segment-text e = rw e (rw (no-words ws (named ws _ _ e)))
 
   order-text : isOrder (wordOf ws 0) ≡ true → askDevice kept room size ws ≡ text

@@ -50,7 +50,7 @@ fn add_bytes(line: &mut [u8], count: usize, more: &[u8]) -> usize
 // Takes every byte of a chunk, runs each line that it ends, and writes their answers.
 fn take_chunk(
     start: Reached,
-    device: &mut [u64; 933],
+    device: &mut [u64; 945],
     message: &mut [u64; 9],
     held: &mut [u8],
     chunk: &[u8],
@@ -113,7 +113,7 @@ fn read_chunk(chunk: &mut [u8]) -> Chunk
 // Runs the whole script. A proved loop has to end, and nothing says that the input does: so the loop
 // counts its turns down, from a number that no run uses up.
 pub fn run_script(
-    device: &mut [u64; 933],
+    device: &mut [u64; 945],
     message: &mut [u64; 9],
     held: &mut [u8],
     chunk: &mut [u8],
@@ -174,7 +174,7 @@ pub fn run_script(
 // Runs the last line, where it lacks its newline, and writes its answer.
 fn run_rest(
     reached: Reached,
-    device: &mut [u64; 933],
+    device: &mut [u64; 945],
     message: &mut [u64; 9],
     held: &mut [u8],
     line: &[u8],

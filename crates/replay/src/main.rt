@@ -40,7 +40,7 @@ fn new_text() -> [u8; 2097184]
 // holds what the hex of a line stands for, less than half of the line, `held` what that of the message
 // did; `out` gathers answers.
 fn main() {
-    let mut device = [0u64; 933];
+    let mut device = [0u64; 945];
     let mut message = sending::no_message();
     let mut held = [0u8; 32768];
     let mut chunk = io::large_buffer();

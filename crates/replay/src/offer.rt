@@ -43,7 +43,7 @@ fn make_offer(
     bytes: &[u8],
     lent: u64,
     held: u64,
-    device: &mut [u64; 933],
+    device: &mut [u64; 945],
     store: &mut [u8],
     rooms: &mut [u8],
     text: &mut [u8],
@@ -72,7 +72,7 @@ fn make_offer(
 fn answer_offering(
     line: &[u8],
     kept: u64,
-    device: &mut [u64; 933],
+    device: &mut [u64; 945],
     bytes: &mut [u8],
     store: &mut [u8],
     rooms: &mut [u8],
@@ -108,7 +108,7 @@ fn answer_offering(
 // Runs a line on offers, and gathers its answer.
 pub fn run_offering(
     run: Run,
-    device: &mut [u64; 933],
+    device: &mut [u64; 945],
     line: &[u8],
     bytes: &mut [u8],
     store: &mut [u8],

@@ -40,7 +40,7 @@ pub struct Run {
 
 // What a run starts with: puts the device that a refused opening leaves into the words, and answers how
 // many bytes are lent, none.
-pub fn first_state(device: &mut [u64; 933]) -> u64
+pub fn first_state(device: &mut [u64; 945]) -> u64
     ensures { λ r. ⌜ stateAt r (now (device .exit)) ≡ firstState ⌝ }
 {
     open(device, 0, 0, 0, 0, 0, 0, 0, 0, 0);
@@ -51,7 +51,7 @@ pub fn first_state(device: &mut [u64; 933]) -> u64
 // for and there, and gathers its answer.
 fn make_call(
     asked: Asked,
-    device: &mut [u64; 933],
+    device: &mut [u64; 945],
     bytes: &[u8],
     store: &mut [u8],
     text: &mut [u8],
@@ -84,7 +84,7 @@ fn make_call(
 // the line is too long.
 fn run_asked(
     run: Run,
-    device: &mut [u64; 933],
+    device: &mut [u64; 945],
     line: &[u8],
     count: usize,
     bytes: &mut [u8],
@@ -126,7 +126,7 @@ fn run_asked(
 // front of `held`, and on nothing else.
 fn run_other(
     run: Run,
-    device: &mut [u64; 933],
+    device: &mut [u64; 945],
     message: &mut [u64; 9],
     held: &mut [u8],
     line: &[u8],
@@ -162,7 +162,7 @@ fn run_other(
 // on offers is run on the device, the store and the second slice, `rooms`, which no other line touches.
 pub fn run_line(
     run: Run,
-    device: &mut [u64; 933],
+    device: &mut [u64; 945],
     message: &mut [u64; 9],
     held: &mut [u8],
     line: &[u8],

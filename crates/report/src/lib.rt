@@ -2,10 +2,12 @@
 // specs/Words.antt of the crate `calls` has them, put as text into a lent buffer. Read `tell` first, then
 // `tell_offer`.
 use command::answer::first;
+use command::answer::then_hex;
 use command::answer::then_number;
 use script::hex::put_byte_hex;
 use script::number::put_number;
 use script::put::put_word;
+use wire::number::put_be64;
 ghost use Prim.Native.Nat.{_≤_};
 ghost use lib.ListN.{length};
 
@@ -147,6 +149,33 @@ fn counted(number: u64, answer: [u64; 8], text: &mut [u8]) -> usize
     told(b"free", answer, 2, text)
 }
 
+// Puts a space and the sixteen hex digits of a word, and answers the place after them.
+fn then_bits(v: u64, text: &mut [u8], at: usize) -> usize
+    requires { ⌜ at ≤ length (now text) ⌝ }
+    ensures { λ r. ⌜ r ≤ length (now (text .entry)) ⌝ }
+{
+    let mut bytes = [0u8; 8];
+    put_be64(&mut bytes, 0, v);
+    then_hex(&bytes, text, at)
+}
+
+// `steady BITS`: the bits of the gauge's level.
+fn steady(answer: [u64; 8], text: &mut [u8]) -> usize
+    ensures { λ r. ⌜ r ≤ length (now (text .entry)) ⌝ }
+{
+    let at = first(b"steady", text);
+    then_bits(answer[1], text, at)
+}
+
+// `falling BITS BITS`: those of its level and of its peak.
+fn falling(answer: [u64; 8], text: &mut [u8]) -> usize
+    ensures { λ r. ⌜ r ≤ length (now (text .entry)) ⌝ }
+{
+    let at = first(b"falling", text);
+    let next = then_bits(answer[1], text, at);
+    then_bits(answer[2], text, next)
+}
+
 // What the call of a number is answered, of its answer's words; the first word is the kind. `open`
 // alone is `opened` where the others are `done`, and a count is `live` or `free`.
 pub fn tell(number: u64, answer: [u64; 8], text: &mut [u8]) -> usize
@@ -161,6 +190,9 @@ pub fn tell(number: u64, answer: [u64; 8], text: &mut [u8]) -> usize
         4 => counted(number, answer, text),
         5 => told(b"wait", answer, 2, text),
         10 => ended(answer, text),
+        12 => first(b"quiet", text),
+        13 => steady(answer, text),
+        14 => falling(answer, text),
         _ => taken(kind, answer, text),
     }
 }

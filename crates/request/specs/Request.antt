@@ -64,6 +64,14 @@ liveName = 108 ∷ 105 ∷ 118 ∷ 101 ∷ []
 abbrev pub freeName : List ℕ
 freeName = 102 ∷ 114 ∷ 101 ∷ 101 ∷ []
 
+-- `tick`
+abbrev pub tickName : List ℕ
+tickName = 116 ∷ 105 ∷ 99 ∷ 107 ∷ []
+
+-- `reading`
+abbrev pub readingName : List ℕ
+readingName = 114 ∷ 101 ∷ 97 ∷ 100 ∷ 105 ∷ 110 ∷ 103 ∷ []
+
 -- `stream`
 abbrev pub streamName : List ℕ
 streamName = 115 ∷ 116 ∷ 114 ∷ 101 ∷ 97 ∷ 109 ∷ []
@@ -85,6 +93,15 @@ fillName = 102 ∷ 105 ∷ 108 ∷ 108 ∷ []
 abbrev pub shape : ℕ → ℕ → Shape
 shape number words = record { number = number; words = words }
 
+-- a call on a domain's gauge
+unfoldable pub gaugeShape : List ℕ → Shape
+gaugeShape name =
+    -- `tick D`
+    pick (same name tickName) (shape 10 2)
+    -- `reading D`
+    (pick (same name readingName) (shape 11 2)
+    (shape 0 0))
+
 -- the number of the call that a name stands for, and how many words its line has; no words where it stands for none
 unfoldable pub shapeOf : List ℕ → Shape
 shapeOf name =
@@ -104,7 +121,7 @@ shapeOf name =
     (pick (same name liveName) (shape 7 2)
     -- `free D`
     (pick (same name freeName) (shape 8 2)
-    (shape 0 0))))))))
+    (gaugeShape name))))))))
 
 -- LENGTH of `open` (0) is what is lent from then on
 abbrev pub keptAfter : ℕ → ℕ → List ℕ → ℕ

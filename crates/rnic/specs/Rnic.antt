@@ -4,6 +4,7 @@ use mathlib.Core.Bool.{Bool, true, false}
 use mathlib.Core.List.{List, [], _∷_}
 use lib.ListN.{length, getD, set}
 use lib.Dec.{leb, eqb}
+use lib.Ieee.{nan}
 use borrow.Rule.Slice.PartMut.{midOf, putMid}
 use Rattle.wire.specs.Wire.{pick, both}
 use Rattle.memory.specs.Part.{partFits}
@@ -12,7 +13,7 @@ use Rattle.memory.specs.declared.part.Outcome.{Outcome}
 use Rattle.memory.specs.declared.part.Outcome.the-variants.{Done, Refused as NotDone}
 use Rattle.rdmap.specs.declared.stream.CloseAnswer.the-variants.{Refused as NotClosed}
 use Rattle.rdmap.specs.declared.stream.TakeAnswer.the-variants.{Refused as NotTaken}
-use Rattle.domain.specs.Domain.{newDomain, domainOpened, domainClosed, domainPosted, domainTaken, domainRegistered, domainDropped}
+use Rattle.domain.specs.Domain.{newDomain, domainOpened, domainClosed, domainPosted, domainTaken, domainRegistered, domainDropped, domainTicked, domainReading}
 use Rattle.domain.specs.declared.Answer.the-variants.{Refused}
 use Rattle.domain.specs.declared.Domain.{Domain}
 use Rattle.holding.specs.Offer.{domainReceives, domainReceivesBytes}
@@ -21,12 +22,14 @@ use Rattle.rnic.specs.declared.RnicDone.{RnicDone}
 use Rattle.rnic.specs.declared.RnicClosed.{RnicClosed}
 use Rattle.rnic.specs.declared.RnicTaken.{RnicTaken}
 use Rattle.rnic.specs.declared.RnicReceived.{RnicReceived}
+use Rattle.rnic.specs.declared.ReadingAnswer.{ReadingAnswer}
+use Rattle.rnic.specs.declared.ReadingAnswer.the-variants.{Reads, Refused as NotRead}
 use Rattle.rnic.specs.declared.Count.{Count}
 use Rattle.rnic.specs.declared.Count.the-variants.{Counted, Refused as NotCounted}
 
--- past the last domain, of which nothing is asked
+-- past the last domain, of which nothing is asked: as an array's default
 abbrev pub noDomain : Domain
-noDomain = record { part = record { start = 0; end = 0 }; windows = []; streams = [] }
+noDomain = record { part = record { start = 0; end = 0 }; windows = []; streams = []; meter = record { count = 0; ticked = false; gauge = record { level = nan; peak = nan } } }
 
 abbrev pub domainAt : Rnic → ℕ → Domain
 domainAt b i = getD (b .domains) i noDomain
@@ -159,3 +162,15 @@ rnicLive b d = pick (leb d 3) (Counted (liveCount (domainAt b d .windows))) (Not
 -- "which of its sixteen slots is the lowest free (16 if none)"
 unfoldable pub rnicFree : Rnic → ℕ → Count
 rnicFree b d = pick (leb d 3) (Counted (lowestFree (domainAt b d .windows))) (NotCounted 1)
+
+-- ---- a domain's gauge
+
+-- "A tick names one domain and is that domain's call, as is asking for its reading"
+unfoldable pub rnicTicked : Rnic → ℕ → RnicDone
+rnicTicked b d =
+    pick (leb d 3)
+    (record { outcome = Done; rnic = withDomain b d (domainTicked (domainAt b d)) })
+    (record { outcome = NotDone 1; rnic = b })
+
+unfoldable pub rnicReading : Rnic → ℕ → ReadingAnswer
+rnicReading b d = pick (leb d 3) (Reads (domainReading (domainAt b d))) (NotRead 1)

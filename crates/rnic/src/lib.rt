@@ -26,6 +26,8 @@ ghost use Rattle.rnic.specs.Rnic.{
   rnicDropped,
   rnicLive,
   rnicFree,
+  rnicTicked,
+  rnicReading,
 };
 ghost use mathlib.Core.List.{_∷_, []};
 use domain::Answer;
@@ -33,6 +35,7 @@ use domain::Domain;
 use domain::new_domain;
 use memory::part::Outcome;
 use memory::part::fits_in;
+use meter::gauge::Reading;
 use rdmap::stream::CloseAnswer;
 use rdmap::stream::TakeAnswer;
 
@@ -67,6 +70,12 @@ pub struct RnicReceived {
 // What a question answers.
 pub enum Count {
     Counted(u32),
+    Refused(u8),
+}
+
+// What asking for a domain's reading answers.
+pub enum ReadingAnswer {
+    Reads(Reading),
     Refused(u8),
 }
 
@@ -376,4 +385,33 @@ pub fn receive(b: Rnic, store: &mut [u8], stream: u64, bytes: &[u8]) -> RnicRece
         answer: Answer::Refused(1),
         rnic: b,
     }
+}
+
+// Ticks a domain: the bytes placed since its last tick are a sample of its gauge.
+pub fn tick(b: Rnic, number: u64) -> RnicDone
+    ensures { λ r. ⌜ r ≡ rnicTicked b number ⌝ }
+{
+    if number <= 3 {
+        let at = number as usize;
+        let dom = b.domains[at];
+        return RnicDone {
+            outcome: Outcome::Done,
+            rnic: with_domain(b, at, domain::tick(dom)),
+        };
+    }
+    RnicDone {
+        outcome: Outcome::Refused(1),
+        rnic: b,
+    }
+}
+
+// What a domain's gauge reads as.
+pub fn reading(b: Rnic, number: u64) -> ReadingAnswer
+    ensures { λ r. ⌜ r ≡ rnicReading b number ⌝ }
+{
+    if number <= 3 {
+        let dom = b.domains[number as usize];
+        return ReadingAnswer::Reads(domain::reading(dom));
+    }
+    ReadingAnswer::Refused(1)
 }

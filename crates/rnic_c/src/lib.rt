@@ -1,4 +1,4 @@
-// The device for a C program, or one in Rust: it holds a device of its own as a block of 933 words and a
+// The device for a C program, or one in Rust: it holds a device of its own as a block of 945 words and a
 // store of any size up to 16 MiB, and calls the device by a call's number with nine numbers, or its
 // receive by itself. A call reads what it needs of the block and writes back what changed (`device`).
 //
@@ -15,8 +15,11 @@ ghost use Rattle.crc32c.specs.Shift.{joined};
 use calls::words::close_words;
 use calls::words::count_words;
 use calls::words::outcome_words;
+use calls::words::reading_words;
 use calls::words::take_words;
 use calls::words::words;
+use device::gauge::reading;
+use device::gauge::tick;
 use device::offer::held_count;
 use device::offer::offer;
 use device::opening::open;
@@ -36,7 +39,7 @@ pub mod message;
 // store; the answer's words.
 #[no_mangle]
 pub extern "C" fn rnic_c_call(
-    device: &mut [u64; 933],
+    device: &mut [u64; 945],
     store: &mut [u8],
     number: u64,
     a: &[u64; 9],
@@ -81,6 +84,13 @@ pub extern "C" fn rnic_c_call(
             *answer = count_words(lowest_free(device, a[0]));
         }
         9 => rnic_c_receive(device, store, a[0], bytes, answer),
+        10 => {
+            let done = tick(device, a[0]);
+            *answer = outcome_words(done);
+        }
+        11 => {
+            *answer = reading_words(reading(device, a[0]));
+        }
         _ => {
             *answer = words(0, 1, 0, 0, 0, 0);
         }
@@ -90,7 +100,7 @@ pub extern "C" fn rnic_c_call(
 // The device's receive by itself: what `rnic_c_call` does with the number 9.
 #[no_mangle]
 pub extern "C" fn rnic_c_receive(
-    device: &mut [u64; 933],
+    device: &mut [u64; 945],
     store: &mut [u8],
     stream: u64,
     bytes: &[u8],
@@ -105,7 +115,7 @@ pub extern "C" fn rnic_c_receive(
 // bytes in its room, one of sixteen that the caller lends with the store.
 #[no_mangle]
 pub extern "C" fn rnic_c_offer(
-    device: &mut [u64; 933],
+    device: &mut [u64; 945],
     store: &mut [u8],
     rooms: &mut [u8],
     stream: u64,
@@ -119,7 +129,7 @@ pub extern "C" fn rnic_c_offer(
 
 // How many bytes of an FPDU that is not complete a stream holds; 0 of a number that is no stream's.
 #[no_mangle]
-pub extern "C" fn rnic_c_held(device: &[u64; 933], stream: u64) -> u32
+pub extern "C" fn rnic_c_held(device: &[u64; 945], stream: u64) -> u32
     ensures { λ r. ⌜ r ≡ heldCount (rnicAt (now (device .entry))) stream ⌝ }
 {
     held_count(device, stream)

@@ -1,8 +1,8 @@
 //! Calls one by one: the scope paper's log, and a message of each kind.
 
 use host::raw::{ROOM, ROOMS};
-use host::{Closed, Device, Error, Event, Fault, Offered, ReadRequest, Received, Rooms, Window};
-use host::{RIGHT_READ, RIGHT_WRITE};
+use host::{Closed, Device, Error, Event, Fault, Offered, ReadRequest, Reading, Received, Rooms};
+use host::{Window, RIGHT_READ, RIGHT_WRITE};
 
 /// The Write of the paper's log.
 pub const WRITE: [u8; 24] = [
@@ -151,6 +151,40 @@ fn sends_reads_and_a_terminate() {
     // A copy is a device of its own: its read still waits.
     let (buffers, reads) = (1, 1);
     assert_eq!(other.close_stream(4), Ok(Closed { buffers, reads }));
+}
+
+/// The bytes of two Writes, one of them in pieces, are a first sample of 8; then nothing is placed, and the level falls by an
+/// eighth at each tick.
+#[test]
+fn a_gauge() {
+    let (mut device, mut store) = night(RIGHT_WRITE);
+    let mut rooms = Rooms::new();
+    assert_eq!(device.receive(&mut store, 4, &WRITE), taken(24));
+    for (piece, answer) in [
+        (&WRITE[..20], kept(20)),
+        (&WRITE[20..], completed(4, 24)),
+        (&WRITE[..20], kept(20)),
+    ] {
+        assert_eq!(device.offer(&mut store, &mut rooms, 4, piece), answer);
+    }
+    assert_eq!(device.reading(1), Ok(Reading::Quiet));
+    let peak = 8.0;
+    let mut level = peak;
+    for _ in 0..20 {
+        assert_eq!(device.tick(1), Ok(()));
+        let reading = match level {
+            _ if level < 1.0 => Reading::Quiet,
+            _ if level < 4.0 => Reading::Falling { level, peak },
+            _ => Reading::Steady(level),
+        };
+        assert_eq!(device.reading(1), Ok(reading));
+        level -= level / 8.0;
+    }
+    assert_eq!(device.reading(0), Ok(Reading::Quiet));
+    for domain in [4, u64::MAX] {
+        assert_eq!(device.tick(domain), Err(Error::Refused(1)));
+        assert_eq!(device.reading(domain), Err(Error::Refused(1)));
+    }
 }
 
 /// Gives an offer's answer that keeps so many bytes.

@@ -22,7 +22,7 @@ fn numbers_of_no_call() {
         let words = device.words(&mut [], number, &arguments, &[]);
         assert_eq!(words, [1, 0, 0, 0, 0, 0, 0, 0]);
     }
-    for number in [10, 11, 255, 256, 1 << 32, (1 << 32) + 1, u64::MAX] {
+    for number in [12, 13, 255, 256, 1 << 32, (1 << 32) + 1, u64::MAX] {
         let arguments = std::array::from_fn(|_| prng.below(20));
         let words = device.words(&mut store, number, &arguments, &WRITE);
         assert_eq!(words, [0, 1, 0, 0, 0, 0, 0, 0], "{number}");
@@ -67,6 +67,8 @@ fn any_input() {
             device.take(a).err(),
             device.live_count(c).err(),
             device.lowest_free(d).err(),
+            device.tick(b).err(),
+            device.reading(e).err(),
             device.drop_window(e).err(),
             device.close_stream(f).err(),
             device.open(b % 128, [0..a % 99, a..c, c..d, d..e]).err(),

@@ -59,7 +59,7 @@ impl Worked {
         self.receive(stream, &send);
     }
 
-    /// Works every field of the device: all windows, streams, buffers and reads, and the streams' ends.
+    /// Works every field of the device: all windows, streams, buffers and reads, the streams' ends, and the gauges.
     fn work(&mut self) {
         let quarter = STORE as u64 / 4;
         let mut opening = vec![STORE as u64];
@@ -74,6 +74,7 @@ impl Worked {
         let mut unexpected = Draft::new(false, 6);
         unexpected.qn = u32::MAX;
         (0..16).for_each(|stream| self.receive(stream, &unexpected));
+        (0..4).for_each(|domain| self.call(call::TICK, &[domain]));
     }
 }
 
@@ -225,11 +226,14 @@ fn equal_devices() {
     assert!(device == Device::new());
 }
 
-/// Says whether words are an answer: a kind that there is, and a local refusal's number where it is one.
+/// Says whether words are an answer: a kind that there is, a local refusal's number where it is one, and finite floats.
 fn is_answer(words: &Words) -> bool {
     match words[0] {
         kind::REFUSED => matches!(words[1], 1..=11 | 16 | 19),
-        other => other <= kind::KEPT,
+        kind::STEADY | kind::FALLING => words[1..3]
+            .iter()
+            .all(|bits| f64::from_bits(*bits).is_finite()),
+        other => other <= kind::QUIET,
     }
 }
 
@@ -247,7 +251,7 @@ fn any_words_are_a_device() {
             words[0] = SMALL as u64;
         }
         for mut device in [Numbered::holding(&words), Numbered::holding(&words).alone()] {
-            for number in [1, 2, 3, 4, 5, 6, 7, 8, 9, 9, 10] {
+            for number in [1, 2, 3, 4, 5, 6, 7, 8, 9, 9, 11, 10, 11, 12] {
                 let given = std::array::from_fn(|_| prng.below(70));
                 (write.tagged, write.opcode) = (prng.percent(50), prng.below(8) as u8);
                 (write.stag, write.to) = (prng.below(1 << 14) as u32, prng.draw());

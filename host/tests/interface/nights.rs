@@ -33,6 +33,9 @@ fn nights<D: Calls>(new: fn() -> D, size: usize, seeds: std::ops::Range<u64>, li
         "took taken send stag",
         "took taken terminate",
         "held",
+        "quiet",
+        "steady",
+        "falling",
     ] {
         assert!(tally.count_all(kind) >= 10, "{kind}:\n{tally}");
     }

@@ -136,6 +136,8 @@ fn label(number: u64, bytes: &[u8], answer: &Words) -> String {
         call::TAKE => "take",
         call::LIVE_COUNT => "live_count",
         call::LOWEST_FREE => "lowest_free",
+        call::TICK => "tick",
+        call::READING => "reading",
         _ => "receive",
     };
     let behind = match number {
@@ -309,7 +311,7 @@ fn stack_of_the_entries() {
     );
     let [next, fpdu] = next_depths();
     println!("rnic_c_message_next: {next}\nrnic_c_fpdu_write: {fpdu}");
-    assert_eq!(columns[0].len(), 37, "every call and answer is met");
+    assert_eq!(columns[0].len(), 41, "every call and answer is met");
     let most = [
         ("RNIC_C_CALL_STACK", called.map(|(_, depth)| *depth).max()),
         ("RNIC_C_RECEIVE_STACK", most(1, "receive")),

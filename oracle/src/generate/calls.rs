@@ -5,10 +5,15 @@ use super::nights::Night;
 use super::places::gaps;
 use crate::hex;
 use crate::state::{stream_domain, Part, RIGHT_WRITE};
-use crate::state::{STREAMS, WINDOWS, WINDOWS_PER_DOMAIN};
+use crate::state::{DOMAINS, STREAMS, WINDOWS, WINDOWS_PER_DOMAIN};
 
 /// Of how many such lengths a small part has room for what peers are to write to.
 const SHARES: u64 = 24;
+
+/// The calls that are now and then oddly written.
+const ODD: [&str; 8] = [
+    "take", "close", "live", "free", "drop", "held", "tick", "reading",
+];
 
 impl Night {
     /// Calls with a number, which is now and then out of range.
@@ -183,11 +188,27 @@ impl Night {
         self.say(format!("fill {start} {}", hex::encode(&bytes)));
     }
 
+    /// Ticks, asks for the reading, or both; now and then so often that the level falls far, with a reading here and there.
+    pub(super) fn watch(&mut self, domain: usize) {
+        let ticks = match self.prng.below(20) {
+            0..=3 => 0,
+            4..=12 => 1,
+            _ => self.prng.between(6, 14),
+        };
+        for _ in 0..ticks {
+            self.numbered("tick", domain, DOMAINS);
+            if self.prng.percent(35) {
+                self.numbered("reading", domain, DOMAINS);
+            }
+        }
+        if ticks != 1 || self.prng.percent(50) {
+            self.numbered("reading", domain, DOMAINS);
+        }
+    }
+
     /// Says a line that is oddly written.
     pub(super) fn odd_line(&mut self, stream: usize) {
-        let word = self
-            .prng
-            .pick(&["take", "close", "live", "free", "drop", "held"]);
+        let word = self.prng.pick(&ODD);
         let line = malform(&mut self.prng, format!("{word} {stream}").as_bytes());
         self.say(line);
     }

@@ -37,8 +37,8 @@ pub fn write_script(
     out.flush()
 }
 
-/// Makes the opening and `count` calls of a domain that is alone, each followed by a look at its part, and an offer also by
-/// the question what its stream holds.
+/// Makes the opening and `count` calls of a domain that is alone, each followed by a look at its part, an offer also by the
+/// question what its stream holds, and a tick by the reading.
 fn own_calls(seed: u64, domain: usize, count: u64) -> Own {
     let opening = roomy_opening(&mut Prng::new(seed), domain);
     let mut night = Night::new(seed, vec![domain], count + 1);
@@ -51,9 +51,9 @@ fn own_calls(seed: u64, domain: usize, count: u64) -> Own {
     let lines = night.lines.into_iter().skip(1).chain(last_calls(domain));
     let mut calls = Vec::new();
     for line in lines {
-        let held = held_after(&line);
+        let question = held_after(&line).or_else(|| reading_after(&line));
         calls.push(line);
-        calls.extend(held);
+        calls.extend(question);
         calls.push(show.clone());
     }
     Own {
@@ -70,10 +70,18 @@ fn held_after(line: &[u8]) -> Option<Vec<u8>> {
     Some([b"held ", stream].concat())
 }
 
+/// Asks after a tick what the domain's gauge reads as.
+fn reading_after(line: &[u8]) -> Option<Vec<u8>> {
+    let domain = line.strip_prefix(b"tick ")?;
+    Some([b"reading ", domain].concat())
+}
+
 /// Gives the calls that bring to light what a domain's state still holds.
 fn last_calls(domain: usize) -> Vec<Vec<u8>> {
     let first = domain * STREAMS_PER_DOMAIN;
-    let mut lines = vec![format!("live {domain}"), format!("free {domain}")];
+    let mut lines: Vec<String> = ["live", "free", "reading", "tick", "reading"]
+        .map(|word| format!("{word} {domain}"))
+        .to_vec();
     for stream in first..first + STREAMS_PER_DOMAIN {
         lines.extend(["held", "take", "close"].map(|word| format!("{word} {stream}")));
     }

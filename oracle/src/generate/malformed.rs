@@ -157,6 +157,12 @@ fn other_line(prng: &mut Prng) -> Vec<u8> {
         b"held -",
         b"held 16",
         b"held 0 0",
+        b"tick",
+        b"tick -",
+        b"tick 0 0",
+        b"reading",
+        b"reading -",
+        b"reading 0 0",
         b"-",
         b"\xFF\xFE",
     ]);

@@ -15,5 +15,6 @@ mod pieces;
 mod places;
 pub mod prng;
 mod receiving;
+pub mod samples;
 pub mod segments;
 mod startups;

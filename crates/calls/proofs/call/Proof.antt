@@ -40,6 +40,12 @@ element-copy-out-call-receive c = search needs
 call-receive-requires : tie.Need-call-receive-requires
 call-receive-requires c κs = search needs
 
+call-tick-requires : tie.Need-call-tick-requires
+call-tick-requires c κs = search needs
+
+call-reading-requires : tie.Need-call-reading-requires
+call-reading-requires c κs = search needs
+
 words-requires : tie.Need-words-requires
 words-requires c κs = search needs
 
@@ -148,10 +154,30 @@ returns-10 c =
 
 returns-11 : tie.Need-returns-11
 unfolding called calledStore
-returns-11 c = (
-  simp (ne-eqb _ _ (c .before .match .rest .0 .0 .0 .0 .0 .0 .0 .0 .0 .1), ne-eqb _ _ (c .before .match .rest .0 .0 .0 .0 .0 .0 .0 .0 .1), ne-eqb _ _ (c .before .match .rest .0 .0 .0 .0 .0 .0 .0 .1), ne-eqb _ _ (c .before .match .rest .0 .0 .0 .0 .0 .0 .1), ne-eqb _ _ (c .before .match .rest .0 .0 .0 .0 .0 .1), ne-eqb _ _ (c .before .match .rest .0 .0 .0 .0 .1), ne-eqb _ _ (c .before .match .rest .0 .0 .0 .1), ne-eqb _ _ (c .before .match .rest .0 .0 .1), ne-eqb _ _ (c .before .match .rest .0 .1), ne-eqb _ _ (c .before .match .rest .1)),
-  simp (ne-eqb _ _ (c .before .match .rest .0 .0 .0 .0 .0 .0 .0 .0 .0 .1), ne-eqb _ _ (c .before .match .rest .0 .0 .0 .0 .0 .0 .0 .0 .1), ne-eqb _ _ (c .before .match .rest .0 .0 .0 .0 .0 .0 .0 .1), ne-eqb _ _ (c .before .match .rest .0 .0 .0 .0 .0 .0 .1), ne-eqb _ _ (c .before .match .rest .0 .0 .0 .0 .0 .1), ne-eqb _ _ (c .before .match .rest .0 .0 .0 .0 .1), ne-eqb _ _ (c .before .match .rest .0 .0 .0 .1), ne-eqb _ _ (c .before .match .rest .0 .0 .1), ne-eqb _ _ (c .before .match .rest .0 .1), ne-eqb _ _ (c .before .match .rest .1)) (c .words .ensures),
-  simp (ne-eqb _ _ (c .before .match .rest .1)),
+returns-11 c =
+    let e = sym (c .before .before .match .keys11) in
+    let x = c .before .before .before .before .before .args in (
+      c .call-tick .ensures .0 ∙ ap (λ n. called (x .b) (length (x .store .now)) n (x .a .now) (x .bytes .now) .rnic) e,
+      c .call-tick .ensures .1 ∙ ap (λ n. called (x .b) (length (x .store .now)) n (x .a .now) (x .bytes .now) .words) e,
+      ap (λ n. calledStore (x .b) n (x .a .now) (x .bytes .now) (x .store .now)) e,
+    )
+
+returns-12 : tie.Need-returns-12
+unfolding called calledStore
+returns-12 c =
+    let e = sym (c .before .before .match .keys12) in
+    let x = c .before .before .before .before .before .args in (
+      ap (λ n. called (x .b) (length (x .store .now)) n (x .a .now) (x .bytes .now) .rnic) e,
+      c .call-reading .ensures ∙ ap (λ n. called (x .b) (length (x .store .now)) n (x .a .now) (x .bytes .now) .words) e,
+      ap (λ n. calledStore (x .b) n (x .a .now) (x .bytes .now) (x .store .now)) e,
+    )
+
+returns-13 : tie.Need-returns-13
+unfolding called calledStore
+returns-13 c = (
+  simp (ne-eqb _ _ (c .before .match .rest .0 .0 .0 .0 .0 .0 .0 .0 .0 .0 .0 .1), ne-eqb _ _ (c .before .match .rest .0 .0 .0 .0 .0 .0 .0 .0 .0 .0 .1), ne-eqb _ _ (c .before .match .rest .0 .0 .0 .0 .0 .0 .0 .0 .0 .1), ne-eqb _ _ (c .before .match .rest .0 .0 .0 .0 .0 .0 .0 .0 .1), ne-eqb _ _ (c .before .match .rest .0 .0 .0 .0 .0 .0 .0 .1), ne-eqb _ _ (c .before .match .rest .0 .0 .0 .0 .0 .0 .1), ne-eqb _ _ (c .before .match .rest .0 .0 .0 .0 .0 .1), ne-eqb _ _ (c .before .match .rest .0 .0 .0 .0 .1), ne-eqb _ _ (c .before .match .rest .0 .0 .0 .1), ne-eqb _ _ (c .before .match .rest .0 .0 .1), ne-eqb _ _ (c .before .match .rest .0 .1), ne-eqb _ _ (c .before .match .rest .1)),
+  simp (ne-eqb _ _ (c .before .match .rest .0 .0 .0 .0 .0 .0 .0 .0 .0 .0 .0 .1), ne-eqb _ _ (c .before .match .rest .0 .0 .0 .0 .0 .0 .0 .0 .0 .0 .1), ne-eqb _ _ (c .before .match .rest .0 .0 .0 .0 .0 .0 .0 .0 .0 .1), ne-eqb _ _ (c .before .match .rest .0 .0 .0 .0 .0 .0 .0 .0 .1), ne-eqb _ _ (c .before .match .rest .0 .0 .0 .0 .0 .0 .0 .1), ne-eqb _ _ (c .before .match .rest .0 .0 .0 .0 .0 .0 .1), ne-eqb _ _ (c .before .match .rest .0 .0 .0 .0 .0 .1), ne-eqb _ _ (c .before .match .rest .0 .0 .0 .0 .1), ne-eqb _ _ (c .before .match .rest .0 .0 .0 .1), ne-eqb _ _ (c .before .match .rest .0 .0 .1), ne-eqb _ _ (c .before .match .rest .0 .1), ne-eqb _ _ (c .before .match .rest .1)) (c .words .ensures),
+  simp (ne-eqb _ _ (c .before .match .rest .0 .0 .1)),
 )
 
 pub call-spec : {M : Type 1} → statement M
@@ -169,6 +195,8 @@ call-spec =
     call-lowest-free-requires
     element-copy-out-call-receive
     call-receive-requires
+    call-tick-requires
+    call-reading-requires
     words-requires
     returns
     returns-2
@@ -181,4 +209,6 @@ call-spec =
     returns-9
     same-length
     returns-10
-    returns-11)
+    returns-11
+    returns-12
+    returns-13)

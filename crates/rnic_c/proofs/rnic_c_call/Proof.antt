@@ -1,7 +1,7 @@
 -- `rnic_c_call` meets its contract: the number is that of one arm, which picks the case of `called`, or it is none of them.
 use Rattle.block.specs.Device.{rnicAt}
 use Rattle.calls.specs.Call.{called, calledStore}
-use Rattle.calls.specs.Words.{outcomeWords, closeWords, takeWords, countWords, answerWords}
+use Rattle.calls.specs.Words.{outcomeWords, closeWords, takeWords, countWords, readingWords}
 use borrow.Author.Tests.{ne-eqb}
 use lib.ListN.{length}
 use mathlib.Core.Path.{_≡_, refl, sym, ap, _∙_}
@@ -144,6 +144,24 @@ element-copy-out-rnic-c-receive c = search needs
 rnic-c-receive-requires : tie.Need-rnic-c-receive-requires
 rnic-c-receive-requires c κs = search needs
 
+element-copy-out-tick : tie.Need-element-copy-out-tick
+element-copy-out-tick c = search needs
+
+tick-requires : tie.Need-tick-requires
+tick-requires c κs = search needs
+
+outcome-words-requires-6 : tie.Need-outcome-words-requires-6
+outcome-words-requires-6 c κs = search needs
+
+element-copy-out-reading : tie.Need-element-copy-out-reading
+element-copy-out-reading c = search needs
+
+reading-requires : tie.Need-reading-requires
+reading-requires c κs = search needs
+
+reading-words-requires : tie.Need-reading-words-requires
+reading-words-requires c κs = search needs
+
 words-requires : tie.Need-words-requires
 words-requires c κs = search needs
 
@@ -222,10 +240,24 @@ returns-10 c =
 
 returns-11 : tie.Need-returns-11
 unfolding called calledStore
-returns-11 c = (
-  simp (ne-eqb _ _ (c .before .match .rest .0 .0 .0 .0 .0 .0 .0 .0 .0 .1), ne-eqb _ _ (c .before .match .rest .0 .0 .0 .0 .0 .0 .0 .0 .1), ne-eqb _ _ (c .before .match .rest .0 .0 .0 .0 .0 .0 .0 .1), ne-eqb _ _ (c .before .match .rest .0 .0 .0 .0 .0 .0 .1), ne-eqb _ _ (c .before .match .rest .0 .0 .0 .0 .0 .1), ne-eqb _ _ (c .before .match .rest .0 .0 .0 .0 .1), ne-eqb _ _ (c .before .match .rest .0 .0 .0 .1), ne-eqb _ _ (c .before .match .rest .0 .0 .1), ne-eqb _ _ (c .before .match .rest .0 .1), ne-eqb _ _ (c .before .match .rest .1)),
-  simp (ne-eqb _ _ (c .before .match .rest .0 .0 .0 .0 .0 .0 .0 .0 .0 .1), ne-eqb _ _ (c .before .match .rest .0 .0 .0 .0 .0 .0 .0 .0 .1), ne-eqb _ _ (c .before .match .rest .0 .0 .0 .0 .0 .0 .0 .1), ne-eqb _ _ (c .before .match .rest .0 .0 .0 .0 .0 .0 .1), ne-eqb _ _ (c .before .match .rest .0 .0 .0 .0 .0 .1), ne-eqb _ _ (c .before .match .rest .0 .0 .0 .0 .1), ne-eqb _ _ (c .before .match .rest .0 .0 .0 .1), ne-eqb _ _ (c .before .match .rest .0 .0 .1), ne-eqb _ _ (c .before .match .rest .0 .1), ne-eqb _ _ (c .before .match .rest .1)) (c .words .ensures),
-  simp (ne-eqb _ _ (c .before .match .rest .1)),
+returns-11 c =
+    let x = c .before .before .before .before .before .before .before .args in
+    let e = sym (c .before .before .before .before .match .keys11) in
+    (c .before .tick .ensures .1 ∙ ap (λ n. called (rnicAt (x .device .now)) (length (x .store .now)) n (x .a .now) (x .bytes .now) .rnic) e, c .outcome-words6 .ensures ∙ ap outcomeWords (c .before .tick .ensures .0) ∙ ap (λ n. called (rnicAt (x .device .now)) (length (x .store .now)) n (x .a .now) (x .bytes .now) .words) e, ap (λ n. calledStore (rnicAt (x .device .now)) n (x .a .now) (x .bytes .now) (x .store .now)) e)
+
+returns-12 : tie.Need-returns-12
+unfolding called calledStore
+returns-12 c =
+    let x = c .before .before .before .before .before .before .before .args in
+    let e = sym (c .before .before .before .before .match .keys12) in
+    (ap (λ n. called (rnicAt (x .device .now)) (length (x .store .now)) n (x .a .now) (x .bytes .now) .rnic) e, c .reading-words .ensures ∙ ap readingWords (c .before .reading .ensures) ∙ ap (λ n. called (rnicAt (x .device .now)) (length (x .store .now)) n (x .a .now) (x .bytes .now) .words) e, ap (λ n. calledStore (rnicAt (x .device .now)) n (x .a .now) (x .bytes .now) (x .store .now)) e)
+
+returns-13 : tie.Need-returns-13
+unfolding called calledStore
+returns-13 c = (
+  simp (ne-eqb _ _ (c .before .match .rest .0 .0 .0 .0 .0 .0 .0 .0 .0 .0 .0 .1), ne-eqb _ _ (c .before .match .rest .0 .0 .0 .0 .0 .0 .0 .0 .0 .0 .1), ne-eqb _ _ (c .before .match .rest .0 .0 .0 .0 .0 .0 .0 .0 .0 .1), ne-eqb _ _ (c .before .match .rest .0 .0 .0 .0 .0 .0 .0 .0 .1), ne-eqb _ _ (c .before .match .rest .0 .0 .0 .0 .0 .0 .0 .1), ne-eqb _ _ (c .before .match .rest .0 .0 .0 .0 .0 .0 .1), ne-eqb _ _ (c .before .match .rest .0 .0 .0 .0 .0 .1), ne-eqb _ _ (c .before .match .rest .0 .0 .0 .0 .1), ne-eqb _ _ (c .before .match .rest .0 .0 .0 .1), ne-eqb _ _ (c .before .match .rest .0 .0 .1), ne-eqb _ _ (c .before .match .rest .0 .1), ne-eqb _ _ (c .before .match .rest .1)),
+  simp (ne-eqb _ _ (c .before .match .rest .0 .0 .0 .0 .0 .0 .0 .0 .0 .0 .0 .1), ne-eqb _ _ (c .before .match .rest .0 .0 .0 .0 .0 .0 .0 .0 .0 .0 .1), ne-eqb _ _ (c .before .match .rest .0 .0 .0 .0 .0 .0 .0 .0 .0 .1), ne-eqb _ _ (c .before .match .rest .0 .0 .0 .0 .0 .0 .0 .0 .1), ne-eqb _ _ (c .before .match .rest .0 .0 .0 .0 .0 .0 .0 .1), ne-eqb _ _ (c .before .match .rest .0 .0 .0 .0 .0 .0 .1), ne-eqb _ _ (c .before .match .rest .0 .0 .0 .0 .0 .1), ne-eqb _ _ (c .before .match .rest .0 .0 .0 .0 .1), ne-eqb _ _ (c .before .match .rest .0 .0 .0 .1), ne-eqb _ _ (c .before .match .rest .0 .0 .1), ne-eqb _ _ (c .before .match .rest .0 .1), ne-eqb _ _ (c .before .match .rest .1)) (c .words .ensures),
+  simp (ne-eqb _ _ (c .before .match .rest .0 .0 .1)),
 )
 
 pub rnic-c-call-spec : {M : Type 1} → statement M
@@ -277,6 +309,12 @@ rnic-c-call-spec =
     count-words-requires-2
     element-copy-out-rnic-c-receive
     rnic-c-receive-requires
+    element-copy-out-tick
+    tick-requires
+    outcome-words-requires-6
+    element-copy-out-reading
+    reading-requires
+    reading-words-requires
     words-requires
     returns
     returns-2
@@ -289,4 +327,6 @@ rnic-c-call-spec =
     returns-9
     same-length
     returns-10
-    returns-11)
+    returns-11
+    returns-12
+    returns-13)

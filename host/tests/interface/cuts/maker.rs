@@ -79,6 +79,8 @@ impl Maker {
                 self.register(domain, slot)
             }
             13..=19 => self.post(stream),
+            20..=22 => self.host(format!("tick {domain}")),
+            23..=24 => self.host(format!("reading {domain}")),
             _ => self.came(stream),
         }
     }

@@ -1,6 +1,6 @@
 //! The safe functions as a device for scripts.
 
-use host::{Device, Error, Event, Fault, Offered, Received, Window};
+use host::{Device, Error, Event, Fault, Offered, Reading, Received, Window};
 use oracle::command::Command;
 
 use super::Calls;
@@ -50,6 +50,8 @@ fn answer(
         }
         Command::Live(domain) => format!("live {}", device.live_count(*domain)?),
         Command::Free(domain) => format!("free {}", device.lowest_free(*domain)?),
+        Command::Tick(domain) => done(device.tick(*domain)?),
+        Command::Reading(domain) => gauged(device.reading(*domain)?),
         _ => String::from("no call of the device"),
     })
 }
@@ -80,6 +82,17 @@ fn register(device: &mut Device, command: &Command) -> Result<String, Error> {
         device.register(number, window)?;
     }
     Ok(done(()))
+}
+
+/// Writes what a gauge reads as.
+fn gauged(reading: Reading) -> String {
+    match reading {
+        Reading::Quiet => String::from("quiet"),
+        Reading::Steady(level) => format!("steady {:016x}", level.to_bits()),
+        Reading::Falling { level, peak } => {
+            format!("falling {:016x} {:016x}", level.to_bits(), peak.to_bits())
+        }
+    }
 }
 
 /// Writes what receive answers.

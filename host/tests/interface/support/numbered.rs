@@ -176,6 +176,8 @@ pub fn encode(command: &Command) -> Option<(u64, Arguments, &[u8])> {
         Command::Live(domain) => (7, vec![*domain]),
         Command::Free(domain) => (8, vec![*domain]),
         Command::Receive { stream, .. } => (9, vec![*stream]),
+        Command::Tick(domain) => (10, vec![*domain]),
+        Command::Reading(domain) => (11, vec![*domain]),
         _ => return None,
     };
     let mut arguments = [0; 9];
@@ -218,6 +220,9 @@ fn line(command: &Command, words: Words) -> String {
         }
         ([9, total, a, b, c, 0, 0, 0], _) => format!("taken {total} terminate {a} {b} {c}"),
         ([10, n, a, b, c, 0, 0, 0], _) => format!("refused {n} {a}/{b}/{c:02X}"),
+        ([12, 0, 0, 0, 0, 0, 0, 0], _) => String::from("quiet"),
+        ([13, level, 0, 0, 0, 0, 0, 0], _) => format!("steady {level:016x}"),
+        ([14, level, peak, 0, 0, 0, 0, 0], _) => format!("falling {level:016x} {peak:016x}"),
         (words, _) => format!("{words:?}"),
     }
 }

@@ -11,7 +11,7 @@ returns : tie.Need-returns
 returns c =
     let w = c .before .before .args .words .now in
     let v = c .clear .last .0 in
-    rnic-zeros v (zeros-put w v 933 (c .clear .ensures))
+    rnic-zeros v (zeros-put w v 945 (c .clear .ensures))
 
 pub clear-block-spec : {M : Type 1} → statement M
 clear-block-spec = tie.close (tie.spec clear-requires returns)

@@ -4,7 +4,7 @@ use mathlib.Core.Path.{_≡_, sym, ap, ap₂, _∙_}
 use mathlib.Core.List.{List}
 use borrow.Rule.Slice.PartMut.{midOf, putMid}
 use Rattle.block.specs.Device.{rnicAt}
-use Rattle.device.specs.Lifted.{liftedOf, offeredOf, offeredBytesOf, offeredRoomOf, offerAnswerOf}
+use Rattle.device.specs.Lifted.{offeredRnicOf, offeredBytesOf, offeredRoomOf, offerAnswerOf}
 use native.Mathlib.Omega.{arith}
 use lib.ListN.{length}
 use borrow.Author.Tests.{le-leb}
@@ -76,7 +76,7 @@ returns c =
     let b = rnicAt (a .words .now) in
     let room : a .stream * roomBytes + roomBytes - a .stream * roomBytes ≡ roomBytes = omega arith in
     let answer = e .0 ∙ ap (λ (m : ℕ). offerWords (offerAnswerOf b (a .stream / 4) (a .stream % 4) (midOf (a .stream * roomBytes) m (a .rooms .now)) (a .bytes .now))) room in
-    let device = e .1 ∙ ap (λ (m : ℕ). liftedOf b (a .stream / 4) (a .stream % 4) (offeredOf b (a .stream / 4) (a .stream % 4) (midOf (a .stream * roomBytes) m (a .rooms .now)) (a .bytes .now))) room in
+    let device = e .1 ∙ ap (λ (m : ℕ). offeredRnicOf b (a .stream / 4) (a .stream % 4) (midOf (a .stream * roomBytes) m (a .rooms .now)) (a .bytes .now)) room in
     let bytes = e .2 ∙ (λ i. offeredBytesOf b (a .stream / 4) (a .stream % 4) (own i) (midOf (a .stream * roomBytes) (room i) (a .rooms .now)) (a .bytes .now) (midOf (own i .start) (own i .end - own i .start) (a .store .now))) in
     let after = e .3 ∙ ap (λ (m : ℕ). offeredRoomOf b (a .stream / 4) (a .stream % 4) (midOf (a .stream * roomBytes) m (a .rooms .now)) (a .bytes .now)) room in
     (simp (fits, k) answer, simp (fits, k) device, simp (fits, k) (λ i. putMid (own i .start) (own i .end - own i .start) (a .store .now) (bytes i)), simp fits (ap₂ (λ (m : ℕ) (l : List ℕ). putMid (a .stream * roomBytes) m (a .rooms .now) l) room after))
