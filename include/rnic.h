@@ -46,6 +46,9 @@ struct rnic {
 #define RNIC_C_MESSAGE_STACK 1024
 #define RNIC_C_MESSAGE_NEXT_STACK 2048
 #define RNIC_C_FPDU_WRITE_STACK 12288
+#define RNIC_C_STARTUP_READ_STACK 1024
+#define RNIC_C_STARTUP_WRITE_STACK 1024
+#define RNIC_C_AGREE_STACK 1024
 
 /* How many numbers a call takes, and how many words its answer has. */
 #define RNIC_C_ARGUMENTS 9
@@ -196,6 +199,114 @@ void rnic_c_message_next(struct rnic_message *message, const uint8_t *bytes, siz
  * 8,192 bytes, 13 where out is too short. */
 void rnic_c_fpdu_write(const uint8_t *ulpdu, size_t ulpdu_length, uint8_t *out, size_t out_length,
                        uint64_t answer[RNIC_C_WRITTEN_WORDS]);
+
+/* ---- How a connection opens. Each side sends one startup frame before its first FPDU: the initiator a request, the responder a
+ * reply. Revision 1 is RFC 5044's, revision 2 RFC 6581's. A frame of revision 2 may have the flag S, and then the side's terms:
+ * how many reads it takes at a time and makes at a time, and which message may come first. None of this looks at a device.
+ *
+ * A responder reads the request, answers its terms, and writes a reply in the form that the request has: revision 1 to revision
+ * 1, revision 2 to revision 2, with S to one with S, and without S to one without.
+ *
+ *     rnic_c_startup_read(0, bytes, count, &request); // again with more bytes, as long as it is RNIC_STARTUP_WAIT
+ *     if (request.kind == RNIC_STARTUP_REFUSED) {
+ *         goto close;
+ *     }
+ *     reply.kind = request.kind;
+ *     reply.crc = request.crc || own_crc; // the CRC is on, both ways, where either frame has it
+ *     reply.declined = 0;
+ *     if (request.kind == RNIC_STARTUP_ENHANCED) {
+ *         reply.declined = rnic_c_agree_answer(&own, &request.terms, &reply.terms, &kept) != 0;
+ *         if (reply.declined) {
+ *             reply.terms = own; // what we can do
+ *             reply.terms.peer = request.terms.peer;
+ *         }
+ *     }
+ *     rnic_c_startup_write(1, &reply, data, data_length, out, sizeof out, answer);
+ *
+ * An initiator writes a request with its own terms, reads the reply, and settles by the reply's terms:
+ *
+ *     request.kind = RNIC_STARTUP_ENHANCED;
+ *     request.crc = own_crc;
+ *     request.declined = 0;
+ *     request.terms = own;
+ *     rnic_c_startup_write(0, &request, data, data_length, out, sizeof out, answer);
+ *     rnic_c_startup_read(1, bytes, count, &reply); // as above
+ *     if (reply.kind != request.kind || reply.declined || rnic_c_agree_settle(&own, &reply.terms, &kept) != 0) {
+ *         goto close;
+ *     }
+ *
+ * The bytes behind a frame's total are the other side's first FPDU's: they may come with the frame. A responder sends no FPDU
+ * before the first one has come from the initiator. In the peer-to-peer model that one is an empty message of the kind agreed.
+ *
+ * Every refusal is local: nothing goes to the peer, unless the host sends a reply that is declined, or closes the connection.
+ *
+ *      1  a kind that is no frame's, a request that is declined, a depth over 16,383, or kinds over 7
+ *     12  more than 512 bytes of private data; the terms count for four
+ *     13  the output is too short
+ *     14  no startup frame: not the key of this side's, a revision that is neither 1 nor 2, a length over 512, or one under four
+ *         with S
+ *     15  the peer asks for markers, which this receiver does not have
+ *     40  our IRD is under the peer's ORD; a Terminate says 2/0/06 of it
+ *     41  no kind of first message that both sides can do; 2/0/07
+ *
+ * Linux's software iWARP (siw) opens with revision 2 and S. It rejects a reply of revision 1 to that, and one with M, which is
+ * never written here. For perftest's reads it asks for an ORD of 128: our IRD must be at least that, or 40 is the answer. An FPDU
+ * that reaches it together with the startup may lie unread there until more bytes come: an initiator does well to wait a
+ * moment before its first. */
+
+/* A depth that is not negotiated. In the other side's terms it says so: our own depth then stays, whatever it is, and a reply
+ * says the same of it. In our own terms it is the number 16,383. */
+#define RNIC_DEPTH_UNSAID 0x3FFF
+
+/* What a side says of itself, as four words. */
+struct rnic_terms {
+    uint64_t peer;  /* A: 0 client-server, anything else the peer-to-peer model; a responder's own is not looked at */
+    uint64_t ird;   /* how many reads it takes at a time, at most 16,383 */
+    uint64_t ord;   /* how many it makes at a time, at most 16,383 */
+    uint64_t kinds; /* enum rnic_kind, added; they count in the peer-to-peer model alone */
+};
+
+/* The kinds of a first message: flags B, C and D. */
+enum rnic_kind { RNIC_KIND_SEND = 4, RNIC_KIND_WRITE = 2, RNIC_KIND_READ = 1 };
+
+/* A startup frame, as nine words. A frame that was read can be written. */
+struct rnic_startup {
+    uint64_t kind;           /* enum rnic_startup_kind */
+    uint64_t total;          /* read: the frame's length, or what its kind says; written: not looked at */
+    uint64_t start;          /* read: the private data is bytes[start] up to bytes[total - 1]; written: not looked at */
+    uint64_t crc;            /* C: 0 or 1; written: anything but 0 */
+    uint64_t declined;       /* R, of a reply alone, in the same way */
+    struct rnic_terms terms; /* of RNIC_STARTUP_ENHANCED alone; else read as 0 and not written */
+};
+
+/* Word 0 of a startup frame. The words that a kind does not use are 0 where it is read. */
+enum rnic_startup_kind {
+    RNIC_STARTUP_REFUSED = 0,  /* no frame: total is the refusal's number */
+    RNIC_STARTUP_FIRST = 1,    /* revision 1 */
+    RNIC_STARTUP_SECOND = 2,   /* revision 2 with S clear */
+    RNIC_STARTUP_ENHANCED = 3, /* revision 2 with S: the private data has the terms before it */
+    RNIC_STARTUP_WAIT = 5      /* the frame is not whole: total is how many bytes are needed */
+};
+
+/* Reads the startup frame at the start of bytes: a request where reply is 0, else a reply. Refused: 14 and 15. */
+void rnic_c_startup_read(uint64_t reply, const uint8_t *bytes, size_t bytes_length, struct rnic_startup *found);
+
+/* Writes a startup frame with its private data to the start of out: a request where reply is 0, else a reply. The answer is as
+ * that of rnic_c_fpdu_write. Refused: 1, 12 and 13, in this order. A frame has at most 532 bytes. */
+void rnic_c_startup_write(uint64_t reply, const struct rnic_startup *frame, const uint8_t *private_data,
+                          size_t private_data_length, uint8_t *out, size_t out_length,
+                          uint64_t answer[RNIC_C_WRITTEN_WORDS]);
+
+/* Answers a request's terms with a responder's own: 0, with the terms for the reply and those to keep to, or a refusal's number,
+ * 1, 40 or 41 in this order, and then *reply and *kept stay. The reply has the request's A, and with it exactly one kind, the
+ * first of Send, Write and Read that both have. Kept are that A and kind, our own IRD, and our ORD, at most the request's IRD. */
+uint32_t rnic_c_agree_answer(const struct rnic_terms *own, const struct rnic_terms *request, struct rnic_terms *reply,
+                             struct rnic_terms *kept);
+
+/* Settles an initiator's own terms, those of its request, by a reply's: 0, with the terms to keep to, or a refusal's number as
+ * above, and then *kept stays. Kept are our A, our IRD, our ORD, at most the reply's IRD, and the kind of our first message, 0
+ * where neither side says A. */
+uint32_t rnic_c_agree_settle(const struct rnic_terms *own, const struct rnic_terms *reply, struct rnic_terms *kept);
 
 #ifdef __cplusplus
 }

@@ -1,4 +1,4 @@
-/* Checks rnic.h against the library: the words of a device, and an answer of each call.
+/* Checks rnic.h against the library: the words of a device, an answer of each call, and the functions without a device.
  * It writes `ok` and ends with 0, or says what differs and ends with 1. */
 #include "rnic.h"
 
@@ -279,6 +279,138 @@ static void check_message(void) {
     expect_number("message_next, empty", out[0], 0xC1);
 }
 
+_Static_assert(sizeof(struct rnic_terms) == 8 * 4, "terms are their words");
+_Static_assert(sizeof(struct rnic_startup) == 8 * 9, "a startup frame is its words");
+_Static_assert(offsetof(struct rnic_startup, terms) == 8 * 5, "the terms stand behind five words");
+
+/* Says what is wrong where terms are not those expected. */
+static void expect_terms(const char *what, struct rnic_terms got, uint64_t peer, uint64_t ird, uint64_t ord,
+                         uint64_t kinds) {
+    if (got.peer != peer || got.ird != ird || got.ord != ord || got.kinds != kinds) {
+        printf("%s: %llu %llu %llu %llu\n", what, (unsigned long long)got.peer, (unsigned long long)got.ird,
+               (unsigned long long)got.ord, (unsigned long long)got.kinds);
+        wrong = 1;
+    }
+}
+
+/* Writes a startup frame with three bytes of private data into so much room. */
+static void write_startup(const char *what, uint64_t reply, const struct rnic_startup *frame, uint8_t *out, size_t room,
+                          uint64_t kind, uint64_t first) {
+    uint64_t answer[RNIC_C_WRITTEN_WORDS];
+    rnic_c_startup_write(reply, frame, (const uint8_t *)"abc", 3, out, room, answer);
+    expect_number(what, answer[0], kind);
+    expect_number(what, answer[1], first);
+}
+
+/* Reads a startup frame into the middle one of three, all words set before: the others stay. */
+static struct rnic_startup read_startup(const char *what, uint64_t reply, const uint8_t *bytes, size_t length,
+                                        uint64_t kind, uint64_t total, uint64_t start) {
+    struct rnic_startup three[3];
+    memset(three, 0xA5, sizeof three);
+    rnic_c_startup_read(reply, bytes, length, &three[1]);
+    expect_number(what, three[1].kind, kind);
+    expect_number(what, three[1].total, total);
+    expect_number(what, three[1].start, start);
+    expect_number(what, three[0].terms.kinds, 0xA5A5A5A5A5A5A5A5);
+    expect_number(what, three[2].kind, 0xA5A5A5A5A5A5A5A5);
+    return three[1];
+}
+
+/* A frame of each kind is written, read, and written from what was read: the same bytes, and none behind them. */
+static void check_frames(void) {
+    const uint64_t totals[] = {0, 23, 23, 27}, starts[] = {0, 20, 20, 24}, kinds = RNIC_KIND_SEND | RNIC_KIND_READ;
+    for (uint64_t kind = RNIC_STARTUP_FIRST; kind <= RNIC_STARTUP_ENHANCED; ++kind) {
+        struct rnic_startup frame = {kind, ~0ull, ~0ull, 7, 7, {9, 0x123, RNIC_DEPTH_UNSAID, kinds}};
+        struct rnic_startup read;
+        uint8_t out[40], again[40];
+        size_t total = totals[kind];
+        memset(out, 0xA5, sizeof out);
+        memset(again, 0xA5, sizeof again);
+        write_startup("startup_write, room", 1, &frame, out, total - 1, RNIC_NOT_WRITTEN, 13);
+        write_startup("startup_write, a request declined", 0, &frame, out, sizeof out, RNIC_NOT_WRITTEN, 1);
+        expect_number("startup_write, refused", out[0], 0xA5);
+        write_startup("startup_write", 1, &frame, out, sizeof out, RNIC_WROTE, total);
+        expect_number("startup_write, revision", out[17], kind == RNIC_STARTUP_FIRST ? 1 : 2);
+        expect_number("startup_write, flags", out[16], kind == RNIC_STARTUP_ENHANCED ? 0x70 : 0x60);
+        expect_number("startup_write, behind", out[total], 0xA5);
+        read = read_startup("startup_read", ~0ull, out, sizeof out, kind, total, starts[kind]);
+        expect_number("startup_read, C", read.crc, 1);
+        expect_number("startup_read, R", read.declined, 1);
+        if (kind == RNIC_STARTUP_ENHANCED) {
+            expect_terms("startup_read, terms", read.terms, 1, 0x123, RNIC_DEPTH_UNSAID, kinds);
+        } else {
+            expect_terms("startup_read, no terms", read.terms, 0, 0, 0, 0);
+        }
+        write_startup("startup_write, again", 1, &read, again, sizeof again, RNIC_WROTE, total);
+        if (memcmp(out, again, sizeof out) != 0 || memcmp(out + read.start, "abc", 3) != 0) {
+            puts("startup: what was read is written as other bytes");
+            wrong = 1;
+        }
+        read_startup("startup_read, of nothing", 1, out, 0, RNIC_STARTUP_WAIT, 20, 0);
+        read = read_startup("startup_read, of a part", 1, out, total - 1, RNIC_STARTUP_WAIT, total, 0);
+        expect_terms("startup_read, of a part", read.terms, 0, 0, 0, 0);
+        read_startup("startup_read, as a request", 0, out, total, RNIC_STARTUP_REFUSED, 14, 0);
+        out[16] |= 0x80;
+        read_startup("startup_read, markers", 1, out, total, RNIC_STARTUP_REFUSED, 15, 0);
+    }
+}
+
+/* What a writer of startup frames refuses besides: a kind that is no frame's, numbers over their fields, and too many bytes. */
+static void check_frames_refused(void) {
+    static uint8_t longest[513], out[533];
+    struct rnic_startup frame = {0, 0, 0, 0, 0, {0, 0, 0, 0}};
+    uint64_t answer[RNIC_C_WRITTEN_WORDS];
+    write_startup("startup_write, kind", 0, &frame, out, sizeof out, RNIC_NOT_WRITTEN, 1);
+    frame.kind = RNIC_STARTUP_WAIT;
+    write_startup("startup_write, kind", 0, &frame, out, sizeof out, RNIC_NOT_WRITTEN, 1);
+    frame.kind = RNIC_STARTUP_ENHANCED;
+    frame.terms.ird = RNIC_DEPTH_UNSAID + 1;
+    write_startup("startup_write, IRD", 0, &frame, out, sizeof out, RNIC_NOT_WRITTEN, 1);
+    frame.terms.ird = 0;
+    frame.terms.kinds = 8;
+    write_startup("startup_write, kinds", 0, &frame, out, sizeof out, RNIC_NOT_WRITTEN, 1);
+    frame.terms.kinds = 0;
+    rnic_c_startup_write(0, &frame, longest, 509, out, sizeof out, answer);
+    expect_number("startup_write, too long", answer[1], 12);
+    rnic_c_startup_write(0, &frame, longest, 508, out, sizeof out, answer);
+    expect_number("startup_write, the longest", answer[1], 532);
+    out[19] = 3;
+    out[18] = 0;
+    read_startup("startup_read, no room for the terms", 0, out, sizeof out, RNIC_STARTUP_REFUSED, 14, 0);
+}
+
+/* A responder and an initiator: siw's request of perftest's reads, one of the peer-to-peer model, and the refusals. */
+static void check_agree(void) {
+    const struct rnic_terms reads = {0, 128, 128, 0}, peer = {1, 1, 1, RNIC_KIND_WRITE | RNIC_KIND_READ};
+    const struct rnic_terms unsaid = {0, RNIC_DEPTH_UNSAID, RNIC_DEPTH_UNSAID, 0};
+    struct rnic_terms own = {0, 127, 8, 7}, reply = {5, 5, 5, 5}, kept = {6, 6, 6, 6};
+    expect_number("agree_answer, IRD", rnic_c_agree_answer(&own, &reads, &reply, &kept), 40);
+    own.kinds = RNIC_KIND_SEND;
+    expect_number("agree_answer, kind", rnic_c_agree_answer(&own, &peer, &reply, &kept), 41);
+    own.kinds = 8;
+    expect_number("agree_answer, kinds", rnic_c_agree_answer(&own, &peer, &reply, &kept), 1);
+    expect_terms("agree_answer, refused", reply, 5, 5, 5, 5);
+    expect_terms("agree_answer, refused", kept, 6, 6, 6, 6);
+    own.kinds = 7;
+    expect_number("agree_answer", rnic_c_agree_answer(&own, &peer, &reply, &kept), 0);
+    expect_terms("agree_answer, the reply", reply, 1, 127, 1, RNIC_KIND_WRITE);
+    expect_terms("agree_answer, kept", kept, 1, 127, 1, RNIC_KIND_WRITE);
+    expect_number("agree_settle", rnic_c_agree_settle(&peer, &reply, &kept), 0);
+    expect_terms("agree_settle, kept", kept, 1, 1, 1, RNIC_KIND_WRITE);
+    own.ird = 128;
+    expect_number("agree_answer, depths", rnic_c_agree_answer(&own, &reads, &reply, &kept), 0);
+    expect_terms("agree_answer, the reply's depths", reply, 0, 128, 8, 0);
+    expect_number("agree_answer, not negotiated", rnic_c_agree_answer(&own, &unsaid, &reply, &kept), 0);
+    expect_terms("agree_answer, the reply unsaid", reply, 0, RNIC_DEPTH_UNSAID, RNIC_DEPTH_UNSAID, 0);
+    expect_terms("agree_answer, kept of our own", kept, 0, 128, 8, 0);
+    own.ird = 7;
+    expect_number("agree_settle, IRD", rnic_c_agree_settle(&own, &reads, &kept), 40);
+    expect_number("agree_settle, kind", rnic_c_agree_settle(&peer, &unsaid, &kept), 41);
+    own.ord = RNIC_DEPTH_UNSAID + 1;
+    expect_number("agree_settle, ORD", rnic_c_agree_settle(&own, &unsaid, &kept), 1);
+    expect_terms("agree_settle, refused", kept, 0, 128, 8, 0);
+}
+
 int main(void) {
     uint64_t a[RNIC_C_ARGUMENTS] = {STORE, 0, 1024, 1024, 2048, 2048, 3072, 3072, STORE}, answer[RNIC_C_WORDS];
     check_words();
@@ -303,6 +435,9 @@ int main(void) {
     call("close_stream", RNIC_CLOSE_STREAM, 0, 0, 0, 0, 0, 0, RNIC_CLOSED, 1, 0);
     check_crc();
     check_message();
+    check_frames();
+    check_frames_refused();
+    check_agree();
     call("no call", 12, 0, 0, 0, 0, 0, 0, RNIC_REFUSED, 1, 0);
     if (!wrong) {
         puts("ok");

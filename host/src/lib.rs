@@ -70,15 +70,49 @@
 //! ```
 //!
 //! A [`Message`] is the other side: what a program sends, one segment after the other, each framed by [`write_fpdu`].
+//!
+//! Before the first FPDU each side sends a startup frame. A responder reads the request with [`read_startup`], answers its terms
+//! with [`answer()`] and writes the reply, in the form of the request, with [`write_startup`]; an initiator writes the request,
+//! reads the reply, and makes of its terms what [`settle`] says. Linux's software iWARP asks for one read each way:
+//!
+//! ```
+//! use host::{answer, read_startup, write_startup, Form, Role, Startup, StartupRead, Terms};
+//!
+//! let request = [
+//!     0x4D, 0x50, 0x41, 0x20, 0x49, 0x44, 0x20, 0x52, 0x65, 0x71, 0x20, 0x46, 0x72, 0x61, 0x6D, 0x65,
+//!     0x10, 0x02, 0x00, 0x04, 0x00, 0x01, 0x00, 0x01,
+//! ];
+//! let StartupRead::Taken { total, frame, .. } = read_startup(Role::Request, &request)? else {
+//!     panic!("more bytes are needed");
+//! };
+//! let Form::Enhanced(terms) = frame.form else {
+//!     panic!("a request without terms is answered without terms");
+//! };
+//! let own = Terms { peer: false, ird: 8, ord: 8, kinds: 7 };
+//! let answered = answer(own, terms)?;
+//! assert_eq!((answered.kept.ird, answered.kept.ord), (8, 1));
+//!
+//! let form = Form::Enhanced(answered.reply);
+//! let reply = Startup { crc: frame.crc, declined: false, form };
+//! let mut out = [0; 24];
+//! assert_eq!(write_startup(Role::Reply, reply, &[], &mut out)?, 24);
+//! assert_eq!(out[20..], [0, 8, 0, 1]);
+//! assert_eq!(total, 24);
+//! # Ok::<(), host::Error>(())
+//! ```
 
 mod answer;
 mod device;
 mod message;
 pub mod raw;
 mod rooms;
+mod startup;
 mod words;
 
 pub use answer::{Closed, Error, Event, Fault, Offered, ReadRequest, Reading, Received};
 pub use device::{crc32c, crc32c_join, crc32c_update, Device, Window, RIGHT_READ, RIGHT_WRITE};
 pub use message::{write_fpdu, Message};
 pub use rooms::Rooms;
+pub use startup::{answer, read_startup, settle, write_startup};
+pub use startup::{Answered, Form, Role, Startup, StartupRead, Terms};
+pub use startup::{DEPTH_UNSAID, KIND_READ, KIND_SEND, KIND_WRITE};

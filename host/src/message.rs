@@ -72,24 +72,21 @@ pub fn write_fpdu(ulpdu: &[u8], out: &mut [u8]) -> Result<usize, Error> {
 
 /// Gives a message that was begun, or the refusal.
 fn begun(state: RnicMessage, refusal: u32) -> Result<Message, Error> {
+    accepted(refusal).map(|()| Message { state })
+}
+
+/// Gives nothing where a refusal's number is 0, or the refusal.
+pub(crate) fn accepted(refusal: u32) -> Result<(), Error> {
+    let number = u64::from(refusal);
     match refusal {
-        0 => Ok(Message { state }),
-        _ => Err(refused(u64::from(refusal)).unwrap_or(Error::Unexpected([
-            u64::from(refusal),
-            0,
-            0,
-            0,
-            0,
-            0,
-            0,
-            0,
-        ]))),
+        0 => Ok(()),
+        _ => Err(refused(number).unwrap_or(Error::Unexpected([number, 0, 0, 0, 0, 0, 0, 0]))),
     }
 }
 
 /// Gives the length that was written, or the refusal.
 #[inline]
-fn length([kind, number]: Written) -> Result<usize, Error> {
+pub(crate) fn length([kind, number]: Written) -> Result<usize, Error> {
     let unexpected = Error::Unexpected([kind, number, 0, 0, 0, 0, 0, 0]);
     match kind {
         written::WROTE => usize::try_from(number).map_err(|_| unexpected),
@@ -99,7 +96,7 @@ fn length([kind, number]: Written) -> Result<usize, Error> {
 }
 
 /// Gives the refusal of a number, or nothing where it is none.
-fn refused(number: u64) -> Option<Error> {
+pub(crate) fn refused(number: u64) -> Option<Error> {
     u8::try_from(number).ok().map(Error::Refused)
 }
 

@@ -44,6 +44,37 @@ pub mod written {
     pub const NO_MORE: u64 = 2;
 }
 
+/// What a side says of itself in a startup, `struct rnic_terms` of the header.
+#[derive(Clone, Copy, Debug, PartialEq, Eq)]
+#[repr(C)]
+pub struct RnicTerms {
+    pub peer: u64,
+    pub ird: u64,
+    pub ord: u64,
+    pub kinds: u64,
+}
+
+/// A startup frame, `struct rnic_startup` of the header.
+#[derive(Clone, Copy, Debug, PartialEq, Eq)]
+#[repr(C)]
+pub struct RnicStartup {
+    pub kind: u64,
+    pub total: u64,
+    pub start: u64,
+    pub crc: u64,
+    pub declined: u64,
+    pub terms: RnicTerms,
+}
+
+/// The kinds of a startup frame.
+pub mod startup {
+    pub const REFUSED: u64 = 0;
+    pub const FIRST: u64 = 1;
+    pub const SECOND: u64 = 2;
+    pub const ENHANCED: u64 = 3;
+    pub const WAIT: u64 = 5;
+}
+
 /// The numbers of the calls.
 pub mod call {
     pub const OPEN: u64 = 0;
@@ -200,4 +231,52 @@ extern "C" {
         out_len: usize,
         answer: *mut Written,
     );
+
+    /// Reads the startup frame at the start of some bytes: a request where `reply` is 0, else a reply.
+    ///
+    /// # Safety
+    /// `bytes` points at `bytes_len` bytes, and `found` at a value that nothing else uses meanwhile; they do not overlap, and a
+    /// length of 0 needs a pointer that is not null.
+    pub fn rnic_c_startup_read(
+        reply: u64,
+        bytes: *const u8,
+        bytes_len: usize,
+        found: *mut RnicStartup,
+    );
+
+    /// Writes a startup frame with its private data to the start of `out`: a request where `reply` is 0, else a reply.
+    ///
+    /// # Safety
+    /// `frame` points at a value, `private_data` at `private_data_len` bytes, `out` at `out_len` and `answer` at a value; the
+    /// last two overlap nothing and nothing else uses them meanwhile. A length of 0 needs a pointer that is not null.
+    pub fn rnic_c_startup_write(
+        reply: u64,
+        frame: *const RnicStartup,
+        private_data: *const u8,
+        private_data_len: usize,
+        out: *mut u8,
+        out_len: usize,
+        answer: *mut Written,
+    );
+
+    /// Answers a request's terms with a responder's own: 0, or a refusal's number.
+    ///
+    /// # Safety
+    /// All four point at values; `reply` and `kept` overlap nothing, and nothing else uses them meanwhile.
+    pub fn rnic_c_agree_answer(
+        own: *const RnicTerms,
+        request: *const RnicTerms,
+        reply: *mut RnicTerms,
+        kept: *mut RnicTerms,
+    ) -> u32;
+
+    /// Settles an initiator's own terms by a reply's: 0, or a refusal's number.
+    ///
+    /// # Safety
+    /// All three point at values; `kept` overlaps nothing, and nothing else uses it meanwhile.
+    pub fn rnic_c_agree_settle(
+        own: *const RnicTerms,
+        reply: *const RnicTerms,
+        kept: *mut RnicTerms,
+    ) -> u32;
 }

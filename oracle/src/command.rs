@@ -1,7 +1,9 @@
 //! The lines of a script, taken apart into commands.
 
+use crate::agree::Own;
 use crate::hex;
 use crate::startup::Role;
+use crate::startup2::Establishment;
 use crate::state::{Part, DOMAINS};
 use crate::words::{bit, crc, number, on_off, parts, role};
 
@@ -86,6 +88,22 @@ pub enum Command {
         role: Role,
         bytes: Vec<u8>,
     },
+    Startup2 {
+        role: Role,
+        crc: bool,
+        reject: bool,
+        establishment: Option<Establishment>,
+        private_data: Vec<u8>,
+        room: u64,
+    },
+    Unstartup2 {
+        role: Role,
+        bytes: Vec<u8>,
+    },
+    Agree {
+        own: Own,
+        request: Establishment,
+    },
     Crc {
         before: Option<u32>,
         bytes: Vec<u8>,
@@ -132,6 +150,7 @@ pub fn parse(line: &[u8]) -> Line {
         .or_else(|| offer_command(&words))
         .or_else(|| store_command(&words))
         .or_else(|| frame_command(&words))
+        .or_else(|| startup2_command(&words))
         .or_else(|| crc_command(&words))
         .or_else(|| message_command(&words))
         .map_or(Line::Bad, Line::Command)
@@ -240,6 +259,51 @@ fn frame_command(words: &[&[u8]]) -> Option<Command> {
             bytes: hex::decode(bytes)?,
         },
         _ => return None,
+    })
+}
+
+/// Reads the commands on startup frames of revision 2.
+fn startup2_command(words: &[&[u8]]) -> Option<Command> {
+    Some(match *words {
+        [b"startup2", role_word, crc, reject, ref fields @ .., private_data, room] => {
+            Command::Startup2 {
+                role: role(role_word)?,
+                crc: bit(crc)?,
+                reject: bit(reject)?,
+                establishment: match fields {
+                    [] => None,
+                    _ => Some(establishment(fields)?),
+                },
+                private_data: hex::decode(private_data)?,
+                room: number(room)?,
+            }
+        }
+        [b"unstartup2", role_word, bytes] => Command::Unstartup2 {
+            role: role(role_word)?,
+            bytes: hex::decode(bytes)?,
+        },
+        [b"agree", ird, ord, kinds, ref fields @ ..] => Command::Agree {
+            own: Own {
+                ird: number(ird)?,
+                ord: number(ord)?,
+                kinds: number(kinds)?,
+            },
+            request: establishment(fields)?,
+        },
+        _ => return None,
+    })
+}
+
+/// Reads A, IRD, ORD and KINDS.
+fn establishment(words: &[&[u8]]) -> Option<Establishment> {
+    let [peer_to_peer, ird, ord, kinds] = *words else {
+        return None;
+    };
+    Some(Establishment {
+        peer_to_peer: bit(peer_to_peer)?,
+        ird: number(ird)?,
+        ord: number(ord)?,
+        kinds: number(kinds)?,
     })
 }
 

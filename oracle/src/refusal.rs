@@ -23,6 +23,8 @@ pub enum Refusal {
     Markers = 15,
     Holds = 16,
     Shared = 19,
+    InsufficientIrd = 40,
+    NoMatchingRtr = 41,
 }
 
 impl fmt::Display for Refusal {
@@ -91,7 +93,7 @@ pub const SOURCE_BOUNDS: Fault = fault(38, 0, 1, 0x01);
 pub const NO_READ_RIGHT: Fault = fault(38, 0, 1, 0x02);
 
 /// Every local refusal, in the order of the numbers.
-pub const REFUSALS: [Refusal; 17] = [
+pub const REFUSALS: [Refusal; 19] = [
     Refusal::OutOfRange,
     Refusal::LentLength,
     Refusal::NotOpen,
@@ -109,6 +111,8 @@ pub const REFUSALS: [Refusal; 17] = [
     Refusal::Markers,
     Refusal::Holds,
     Refusal::Shared,
+    Refusal::InsufficientIrd,
+    Refusal::NoMatchingRtr,
 ];
 
 /// Every fault, in the order of the numbers.

@@ -2,6 +2,7 @@
 
 use std::io::{self, BufRead, Write};
 
+use crate::agree::respond;
 use crate::command::{parse, Command, Line};
 use crate::crc::crc32c_bitwise;
 use crate::hex;
@@ -9,8 +10,10 @@ use crate::mpa::{read_fpdu, write_fpdu, Frame};
 use crate::pieces::{carry_on, join};
 use crate::refusal::Refusal;
 use crate::sender::Message;
-use crate::startup::{read_startup, write_startup, Startup};
+use crate::startup::{read_startup, write_startup};
+use crate::startup2::{read_startup2, write_startup2};
 use crate::state::{Device, HELD};
+use crate::text::{agreed_text, startup2_text, startup_text};
 use crate::text::{answer_text, bad, crc_text, done, offered_text, read_text, refused};
 
 /// Bytes of the program's store.
@@ -206,21 +209,19 @@ fn frame(command: Command) -> Result<String, Refusal> {
         } => wrote(room, |out| {
             write_startup(role, crc, reject, &private_data, out)
         })?,
-        Command::Unstartup { role, bytes } => match read_startup(role, &bytes) {
-            Startup::Wait(total) => format!("wait {total}"),
-            Startup::Whole {
-                total,
-                crc,
-                reject,
-                private_data,
-            } => format!(
-                "startup {total} {} {} {}",
-                u8::from(crc),
-                u8::from(reject),
-                hex::encode(private_data)
-            ),
-            Startup::Refused(refusal) => refused(refusal),
-        },
+        Command::Unstartup { role, bytes } => startup_text(read_startup(role, &bytes)),
+        Command::Startup2 {
+            role,
+            crc,
+            reject,
+            establishment,
+            private_data,
+            room,
+        } => wrote(room, |out| {
+            write_startup2(role, crc, reject, establishment, &private_data, out)
+        })?,
+        Command::Unstartup2 { role, bytes } => startup2_text(read_startup2(role, &bytes)),
+        Command::Agree { own, request } => agreed_text(respond(own, request)?),
         Command::Crc {
             before: None,
             bytes,

@@ -14,7 +14,13 @@ pub const FLAG_CRC: u8 = 0x40;
 /// The flag that declines the connection.
 pub const FLAG_REJECT: u8 = 0x20;
 
-const REVISION: u8 = 1;
+/// Where the flags, the revision and the private data length stand.
+pub(crate) const FLAGS: usize = 16;
+pub(crate) const REVISION: usize = 17;
+pub(crate) const LENGTH: usize = 18;
+
+/// The revision of RFC 5044.
+pub(crate) const REVISION_1: u8 = 1;
 
 /// Which of the two startup frames.
 #[derive(Clone, Copy, Debug, PartialEq, Eq)]
@@ -60,14 +66,26 @@ pub fn write_startup(
     if private_data.len() > MAX_PRIVATE_DATA {
         return Err(Refusal::TooLong);
     }
+    let flags = (u8::from(crc) * FLAG_CRC) | (u8::from(reject) * FLAG_REJECT);
+    put_frame(role, flags, REVISION_1, private_data, out)
+}
+
+/// Puts a frame of at most 512 bytes of private data at the front of `out`, where it fits, and gives its total.
+pub(crate) fn put_frame(
+    role: Role,
+    flags: u8,
+    revision: u8,
+    private_data: &[u8],
+    out: &mut [u8],
+) -> Result<usize, Refusal> {
     let total = HEADER + private_data.len();
     if out.len() < total {
         return Err(Refusal::NoRoom);
     }
-    out[..16].copy_from_slice(role.key());
-    out[16] = (u8::from(crc) * FLAG_CRC) | (u8::from(reject) * FLAG_REJECT);
-    out[17] = REVISION;
-    out[18..HEADER].copy_from_slice(&(private_data.len() as u16).to_be_bytes());
+    out[..FLAGS].copy_from_slice(role.key());
+    out[FLAGS] = flags;
+    out[REVISION] = revision;
+    out[LENGTH..HEADER].copy_from_slice(&(private_data.len() as u16).to_be_bytes());
     out[HEADER..total].copy_from_slice(private_data);
     Ok(total)
 }
@@ -77,9 +95,10 @@ pub fn read_startup(role: Role, bytes: &[u8]) -> Startup<'_> {
     if bytes.len() < HEADER {
         return Startup::Wait(HEADER);
     }
-    let flags = bytes[16];
-    let length = usize::from(u16_at(bytes, 18));
-    if bytes[..16] != role.key()[..] || bytes[17] != REVISION || length > MAX_PRIVATE_DATA {
+    let flags = bytes[FLAGS];
+    let length = usize::from(u16_at(bytes, LENGTH));
+    let known = bytes[..FLAGS] == role.key()[..] && bytes[REVISION] == REVISION_1;
+    if !known || length > MAX_PRIVATE_DATA {
         return Startup::Refused(Refusal::BadStartup);
     }
     if flags & FLAG_MARKERS != 0 {

@@ -1,9 +1,12 @@
 //! The answers as lines of text.
 
+use crate::hex;
 use crate::offer::Offered;
 use crate::rdmap::ReadRequest;
 use crate::receive::{Answer, Event};
 use crate::refusal::Refusal;
+use crate::startup::Startup;
+use crate::startup2::{Establishment, Startup2};
 
 /// Writes what receive answers.
 pub fn answer_text(answer: Answer) -> String {
@@ -77,4 +80,63 @@ pub fn read_text(read: ReadRequest) -> String {
 /// Writes a CRC.
 pub fn crc_text(crc: u32) -> String {
     format!("crc {crc:08x}")
+}
+
+/// Writes what reading a startup frame of revision 1 gives.
+pub fn startup_text(startup: Startup) -> String {
+    match startup {
+        Startup::Wait(total) => format!("wait {total}"),
+        Startup::Whole {
+            total,
+            crc,
+            reject,
+            private_data,
+        } => format!(
+            "startup {total} {} {} {}",
+            u8::from(crc),
+            u8::from(reject),
+            hex::encode(private_data)
+        ),
+        Startup::Refused(refusal) => refused(refusal),
+    }
+}
+
+/// Writes what reading a startup frame of either revision gives.
+pub fn startup2_text(startup: Startup2) -> String {
+    match startup {
+        Startup2::Revision1(startup) => startup_text(startup),
+        Startup2::Wait(total) => format!("wait {total}"),
+        Startup2::Whole {
+            total,
+            crc,
+            reject,
+            establishment,
+            private_data,
+        } => {
+            let fields = establishment.map_or(String::new(), |fields| fields_text(fields) + " ");
+            format!(
+                "startup2 {total} {} {} {fields}{}",
+                u8::from(crc),
+                u8::from(reject),
+                hex::encode(private_data)
+            )
+        }
+        Startup2::Refused(refusal) => refused(refusal),
+    }
+}
+
+/// Writes what a reply says.
+pub fn agreed_text(reply: Establishment) -> String {
+    format!("agreed {}", fields_text(reply))
+}
+
+/// Writes A, IRD, ORD and KINDS.
+fn fields_text(fields: Establishment) -> String {
+    let Establishment {
+        peer_to_peer,
+        ird,
+        ord,
+        kinds,
+    } = fields;
+    format!("{} {ird} {ord} {kinds}", u8::from(peer_to_peer))
 }

@@ -2,6 +2,7 @@
 
 use oracle::command::MAX_LINE;
 use oracle::generate::{frames, messages, nights};
+use oracle::hex;
 use oracle::script::run;
 use oracle::state::{DOMAINS, STREAMS_PER_DOMAIN};
 use oracle::tally::{refusals, Tally};
@@ -75,6 +76,18 @@ fn frames_reach_every_answer() {
             "unstartup",
             &["startup", "wait", "refused 14", "refused 15"],
         ),
+        (
+            "startup2",
+            &["wrote", "refused 1", "refused 12", "refused 13"],
+        ),
+        (
+            "unstartup2",
+            &["startup", "startup2", "wait", "refused 14", "refused 15"],
+        ),
+        (
+            "agree",
+            &["agreed", "refused 1", "refused 40", "refused 41"],
+        ),
         ("crc", &["crc"]),
         ("join", &["crc"]),
         ("-", &["bad"]),
@@ -111,10 +124,11 @@ fn nights_reach_every_answer() {
         assert!(tally.count(command, "done") > 1000, "{command}");
         assert!(tally.count(command, "refused 19") > 50, "{command}");
     }
-    let writers: Vec<String> = (12..=15)
+    let stateless: Vec<String> = (12..=15)
+        .chain(40..=41)
         .map(|number| format!("refused {number}"))
         .collect();
-    for kind in refusals().iter().filter(|kind| !writers.contains(kind)) {
+    for kind in refusals().iter().filter(|kind| !stateless.contains(kind)) {
         assert!(tally.count_all(kind) > 5, "{kind}");
     }
 }
@@ -187,5 +201,117 @@ fn no_line_of_a_night_is_too_long() {
         let script = night_script(seed, 500);
         let longest = script.split(|&byte| byte == b'\n').map(<[u8]>::len).max();
         assert!(longest.is_some_and(|length| length <= MAX_LINE), "{seed}");
+    }
+}
+
+/// Gives the words of each line of some random frames that is a command, with its answer.
+fn frame_answers() -> Vec<(Vec<String>, String)> {
+    let mut answers = Vec::new();
+    for seed in 1..=10 {
+        run(
+            &frame_script(seed, 4000)[..],
+            std::io::sink(),
+            |line, answer| {
+                let words = String::from_utf8_lossy(line);
+                let words = words.split(' ').filter(|word| !word.is_empty());
+                let words = words.map(String::from).collect();
+                answers.push((words, String::from(answer)));
+            },
+        )
+        .unwrap();
+    }
+    answers
+}
+
+#[test]
+fn both_sides_of_each_limit_of_a_startup_are_reached() {
+    let answers = frame_answers();
+    let count = |command: &str, fits: &dyn Fn(&[&str], &str) -> bool| {
+        let same = answers.iter().filter(|(words, answer)| {
+            let words: Vec<&str> = words.iter().map(String::as_str).collect();
+            words[0] == command && answer != "bad" && fits(&words, answer)
+        });
+        same.count()
+    };
+    // The bytes of private data with S and without, the longest and one more.
+    for (words, most) in [(10, 508), (6, 512)] {
+        for (over, answer) in [(0, "wrote"), (0, "refused 13"), (1, "refused 12")] {
+            let fits = |line: &[&str], given: &str| {
+                let length = 2 * (most + over);
+                line.len() == words && line[words - 2].len() == length && given.starts_with(answer)
+            };
+            assert!(count("startup2", &fits) > 5, "{words} {over} {answer}");
+        }
+    }
+    // Frames that are read: the flags and the revision, and the length of the private data.
+    let header = |line: &[&str], s: u8, revision: u8, length: u16| {
+        let bytes = hex::decode(line[2].as_bytes()).unwrap_or_default();
+        bytes.len() >= 20
+            && bytes[16] & 0x10 == s
+            && bytes[17] == revision
+            && bytes[18..20] == length.to_be_bytes()
+    };
+    for (s, revision, length, answer) in [
+        (0x10, 2, 3, "refused 14"),
+        (0x10, 2, 4, "startup2"),
+        (0x10, 2, 4, "wait"),
+        (0x10, 2, 4, "refused 15"),
+        (0x10, 2, 512, "startup2"),
+        (0x10, 2, 513, "refused 14"),
+        (0x00, 2, 0, "startup2"),
+        (0x00, 2, 3, "startup2"),
+        (0x00, 2, 512, "startup2"),
+        (0x00, 2, 513, "refused 14"),
+        (0x10, 1, 0, "startup"),
+        (0x10, 1, 3, "startup"),
+        (0x10, 1, 4, "startup"),
+        (0x00, 1, 0, "startup"),
+        (0x10, 3, 4, "refused 14"),
+        (0x00, 0, 0, "refused 14"),
+    ] {
+        let fits = |line: &[&str], given: &str| {
+            let same = given == answer || given.starts_with(&format!("{answer} "));
+            same && header(line, s, revision, length)
+        };
+        let times = count("unstartup2", &fits);
+        assert!(times > 2, "{s:02x} {revision} {length} {answer}: {times}");
+    }
+    // Depths that are compared: equal, one less and one more, and 0x3FFF in each of the four places.
+    let number = |word: &str| word.parse::<u64>().unwrap();
+    for difference in [-1, 0, 1] {
+        let reads = |line: &[&str], given: &str| {
+            let apart = i128::from(number(line[1])) - i128::from(number(line[6]));
+            let few = given == "refused 40";
+            apart == difference && given != "refused 1" && few == (apart < 0)
+        };
+        assert!(count("agree", &reads) > 50, "IRD {difference}");
+        let asks = |line: &[&str], given: &str| {
+            let apart = i128::from(number(line[2])) - i128::from(number(line[5]));
+            apart == difference && given.starts_with("agreed")
+        };
+        assert!(count("agree", &asks) > 50, "ORD {difference}");
+    }
+    for place in [1, 2, 5, 6] {
+        let all_ones = |line: &[&str], given: &str| {
+            number(line[place]) == 0x3FFF && given.starts_with("agreed")
+        };
+        assert!(count("agree", &all_ones) > 50, "{place}");
+    }
+    for kind in ["0", "1", "2", "4"] {
+        let fits = |_: &[&str], given: &str| {
+            given.starts_with("agreed") && given.split(' ').nth(4) == Some(kind)
+        };
+        assert!(count("agree", &fits) > 50, "{kind}");
+    }
+    // A number that its field cannot hold, in each place, the kinds also without A.
+    for place in [1, 2, 3, 5, 6, 7] {
+        let most = if [3, 7].contains(&place) { 7 } else { 0x3FFF };
+        let over = |line: &[&str], given: &str| {
+            let others = [1, 2, 3, 5, 6, 7].iter().filter(|&&at| at != place);
+            let mut others = others.map(|&at| (at, number(line[at])));
+            let fits = |(at, value)| value <= if [3, 7].contains(&at) { 7 } else { 0x3FFF };
+            line[4] == "0" && number(line[place]) > most && others.all(fits) && given == "refused 1"
+        };
+        assert!(count("agree", &over) > 2, "{place}");
     }
 }

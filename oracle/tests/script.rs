@@ -250,6 +250,83 @@ fn frames() {
 }
 
 #[test]
+fn startups_of_revision_2() {
+    let frame = |flags: &str, rest: &str| format!("4d504120494420526570204672616d65{flags}{rest}");
+    let without = frame("00", "02000141");
+    let with = frame("70", "020005ffff7ffe41");
+    let waits = format!("unstartup2 rep {}", &with[..40]);
+    let old = frame("10", "010000");
+    check(&[
+        ("startup2 rep 0 0 41 21", &format!("wrote 21 {without}")),
+        (&format!("unstartup2 rep {without}"), "startup2 21 0 0 41"),
+        (&format!("unstartup rep {without}"), "refused 14"),
+        (
+            "startup2 rep 1 1 1 16383 16382 5 41 25",
+            &format!("wrote 25 {with}"),
+        ),
+        (
+            &format!("unstartup2 rep {with}"),
+            "startup2 25 1 1 1 16383 16382 5 41",
+        ),
+        (&format!("unstartup2 req {with}"), "refused 14"),
+        (&waits, "wait 25"),
+        (&format!("unstartup2 rep {old}"), "startup 20 0 0 -"),
+        ("unstartup2 rep 00", "wait 20"),
+        // R of a request is not looked at, nor are the reserved bits.
+        (
+            "unstartup2 req 4d504120494420526571204672616d653f02000400010002",
+            "startup2 24 0 0 0 1 2 0 -",
+        ),
+        // Without A the kinds are neither written nor read.
+        (
+            "startup2 rep 0 0 0 1 2 7 - 24",
+            &format!("wrote 24 {}", frame("10", "02000400010002")),
+        ),
+        (
+            &format!("unstartup2 rep {}", frame("10", "0200044001c002")),
+            "startup2 24 0 0 0 1 2 0 -",
+        ),
+        (
+            &format!("unstartup2 rep {}", frame("90", "020003")),
+            "refused 14",
+        ),
+        (
+            &format!("unstartup2 rep {}", frame("90", "020004")),
+            "refused 15",
+        ),
+        ("startup2 req 0 1 - 20", "refused 1"),
+        ("startup2 req 0 0 0 1 2 8 - 24", "refused 1"),
+        ("startup2 req 0 0 0 16384 2 7 - 24", "refused 1"),
+        ("startup2 req 0 0 0 1 2 7 - 23", "refused 13"),
+        ("startup2 req 0 0 2 1 2 7 - 24", "bad"),
+        ("startup2 req 0 0 0 1 2 - 24", "bad"),
+        ("startup2 req 0 0 0 1 2 7 0 - 24", "bad"),
+        ("unstartup2 -", "bad"),
+    ]);
+    for (fields, most) in [("", 512), ("1 2 3 4 ", 508)] {
+        let line = |length: usize| format!("startup2 rep 0 0 {fields}{} 531", "00".repeat(length));
+        check(&[(&line(most), "refused 13"), (&line(most + 1), "refused 12")]);
+    }
+}
+
+#[test]
+fn agreements() {
+    check(&[
+        ("agree 8 8 7 0 3 5 6", "agreed 0 8 3 0"),
+        ("agree 8 2 3 1 3 5 7", "agreed 1 8 2 2"),
+        ("agree 4 8 7 0 3 5 0", "refused 40"),
+        ("agree 5 8 7 1 3 5 0", "refused 41"),
+        ("agree 4 8 7 1 3 5 0", "refused 40"),
+        ("agree 4 8 8 1 3 5 0", "refused 1"),
+        ("agree 0 8 7 0 16383 16383 0", "agreed 0 16383 16383 0"),
+        ("agree 16383 16383 7 0 0 16382 0", "agreed 0 16383 0 0"),
+        ("agree 1 1 7 2 1 1 0", "bad"),
+        ("agree 1 1 7 0 1 1", "bad"),
+        ("agree 1 1 7 0 1 1 0 0", "bad"),
+    ]);
+}
+
+#[test]
 fn crcs() {
     check(&[
         ("crc 313233343536373839", "crc e3069283"),

@@ -25,7 +25,7 @@ fn tally(answers: &str) -> (bool, String) {
 #[test]
 fn each_refusal_and_each_reading_is_asked_for() {
     let refusals = refusals();
-    let numbers = (1..=16).chain(19..=38);
+    let numbers = (1..=16).chain(19..=38).chain(40..=41);
     for number in numbers.map(|number| format!("refused {number}")) {
         let same = |kind: &&String| **kind == number || kind.starts_with(&format!("{number} "));
         assert!(refusals.iter().any(|kind| same(&kind)), "{number}");

@@ -31,7 +31,7 @@ pub fn then_hex(bytes: &[u8], text: &mut [u8], at: usize) -> usize
 }
 
 // A flag as a number.
-fn bit(flag: bool) -> u64 {
+pub fn bit(flag: bool) -> u64 {
     if flag { 1 } else { 0 }
 }
 

@@ -247,7 +247,7 @@ pub fn answer_frame(command: FrameCommand, bytes: &[u8], frame: &mut [u8]) -> Fr
 }
 
 // The len bytes from start, none where they do not lie in bytes.
-fn part(bytes: &[u8], start: usize, len: usize) -> &[u8] {
+pub fn part(bytes: &[u8], start: usize, len: usize) -> &[u8] {
     if start <= bytes.len() {
         if len <= bytes.len() - start {
             let end = start + len;
@@ -258,7 +258,7 @@ fn part(bytes: &[u8], start: usize, len: usize) -> &[u8] {
 }
 
 // What a writer answered, in words.
-fn tell_written(written: Written, frame: &[u8], text: &mut [u8]) -> usize
+pub fn tell_written(written: Written, frame: &[u8], text: &mut [u8]) -> usize
     ensures { λ r. ⌜ r ≤ length (now (text .entry)) ⌝ }
 {
     match written {

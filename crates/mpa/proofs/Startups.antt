@@ -71,7 +71,7 @@ pub record Admitted (reply r : Bool) (n room k : ℕ) : Type 0 where
   pub within : k ≤ room
 
 -- where R is not that of a request, it counts as it is
-counts : (reply x : Bool) → both (not reply) x ≡ false → both reply x ≡ x
+pub counts : (reply x : Bool) → both (not reply) x ≡ false → both reply x ≡ x
 counts true x e = refl
 counts false x e = sym e
 

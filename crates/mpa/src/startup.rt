@@ -76,14 +76,14 @@ const REPLY_KEY: [u8; 16] = [
 ];
 
 // The key of a request or a reply.
-fn key_of(reply: bool) -> [u8; 16]
+pub fn key_of(reply: bool) -> [u8; 16]
     ensures { λ r. ⌜ r ≡ keyOf reply ⌝ }
 {
     if reply { REPLY_KEY } else { REQUEST_KEY }
 }
 
 // The flags with C and R as told.
-fn flags_of(crc: bool, declined: bool) -> u8
+pub fn flags_of(crc: bool, declined: bool) -> u8
     ensures { λ r. ⌜ r ≡ flagsOf crc declined ⌝ }
 {
     if crc {
@@ -94,7 +94,7 @@ fn flags_of(crc: bool, declined: bool) -> u8
 }
 
 // Whether R is asked for in a request.
-fn request_declines(reply: bool, declined: bool) -> bool
+pub fn request_declines(reply: bool, declined: bool) -> bool
     ensures { λ r. ⌜ r ≡ both (not reply) declined ⌝ }
 {
     if reply { false } else { declined }
@@ -156,14 +156,14 @@ fn head_right(reply: bool, bytes: &[u8]) -> bool
 }
 
 // C of the flags.
-fn flag_c(flags: u8) -> bool
+pub fn flag_c(flags: u8) -> bool
     ensures { λ r. ⌜ r ≡ flagC flags ⌝ }
 {
     flags / FLAG_C % 2 == 1
 }
 
 // R of the flags, which counts in a reply alone.
-fn declines(reply: bool, flags: u8) -> bool
+pub fn declines(reply: bool, flags: u8) -> bool
     ensures { λ r. ⌜ r ≡ both reply (flagR flags) ⌝ }
 {
     if reply {

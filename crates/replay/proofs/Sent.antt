@@ -12,6 +12,7 @@ use Rattle.wire.proofs.Laws.{same-eq}
 use Rattle.command.specs.Args.{lineWords, wordOf, numbersOf}
 use Rattle.command.specs.Frames.{isFrame}
 use Rattle.sums.specs.Sums.{isSum}
+use Rattle.starting.specs.Starting.{isStart}
 use Rattle.sending.specs.Sending.{messageName, segmentName, isOrder}
 use Rattle.request.specs.Request.{Request, gaugeShape, shapeOf, askNumbers, askCall, askDevice, isSilent, requestOf}
 use Rattle.request.specs.Request.Request.{text}
@@ -52,4 +53,5 @@ sent-text kept room size line h =
     pick-same (isSilent line) text _
     (pick-same (isFrame (wordOf (lineWords line) 0)) text _
     (pick-same (isSum (wordOf (lineWords line) 0)) text _
-    (order-text kept room size (lineWords line) h)))
+    (pick-same (isStart (wordOf (lineWords line) 0)) text _
+    (order-text kept room size (lineWords line) h))))

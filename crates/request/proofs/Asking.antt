@@ -21,6 +21,7 @@ use Rattle.command.specs.declared.args.Numbers.{Numbers}
 use Rattle.command.specs.declared.args.Words.{Words}
 use Rattle.command.proofs.Read.{counted, other-count, pairs-decoded, front-decoded}
 use Rattle.sums.specs.Sums.{isSum}
+use Rattle.starting.specs.Starting.{isStart}
 use Rattle.request.specs.Request.{Request, shapeOf, keptAfter, numbersCall, askNumbers, nine, streamCall, askStream, atMost, lentOf, receiveCall, askReceive, filled, askFill, bytesName, fillName, receiveName, streamName, askCall, askDevice, isSilent, requestOf, answeredBy, callBy, askedOf, inputOf, storeAfter, Says, SaysCall}
 use Rattle.request.specs.Request.Request.{call, fill, text}
 use Rattle.request.specs.declared.Asked.{Asked}
@@ -323,8 +324,14 @@ module _ (kept room size : ℕ) (line : List ℕ) where
   unfolding requestOf
   sum-text e f g = rw (e, f, g)
 
+  pub start-text :
+      isSilent line ≡ false → isFrame (wordOf (lineWords line) 0) ≡ false → isSum (wordOf (lineWords line) 0) ≡ false
+      → isStart (wordOf (lineWords line) 0) ≡ true → text ≡ requestOf kept room size line
+  unfolding requestOf
+  start-text e f g h = rw (e, f, g, h)
+
   pub device-line :
       isSilent line ≡ false → isFrame (wordOf (lineWords line) 0) ≡ false → isSum (wordOf (lineWords line) 0) ≡ false
-      → askDevice kept room size (lineWords line) ≡ requestOf kept room size line
+      → isStart (wordOf (lineWords line) 0) ≡ false → askDevice kept room size (lineWords line) ≡ requestOf kept room size line
   unfolding requestOf
-  device-line e f g = rw (e, f, g)
+  device-line e f g h = rw (e, f, g, h)

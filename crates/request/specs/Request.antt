@@ -17,6 +17,7 @@ use Rattle.command.specs.Frames.{isFrame, switchOf}
 use Rattle.command.specs.declared.args.Flag.{Flag}
 use Rattle.command.specs.declared.args.Numbers.{Numbers}
 use Rattle.sums.specs.Sums.{isSum}
+use Rattle.starting.specs.Starting.{isStart}
 use Rattle.request.specs.declared.Asked.{Asked}
 use Rattle.request.specs.declared.shape.Shape.{Shape}
 
@@ -27,7 +28,7 @@ pub data Request : Type 0 where
   call : (number : ℕ) → (numbers input : List ℕ) → (lent kept : ℕ) → Request
   -- bytes put into the store
   fill : (start : ℕ) → (bytes : List ℕ) → Request
-  -- a text alone: of a frame, of a CRC, of the store's bytes, or `bad`; or nothing
+  -- a text alone: of a frame, of a CRC, of the startup, of the store's bytes, or `bad`; or nothing
   text : Request
 
 -- ---- the names of the commands
@@ -202,7 +203,8 @@ requestOf kept room size line =
     pick (isSilent line) text
     (pick (isFrame (wordOf (lineWords line) 0)) text
     (pick (isSum (wordOf (lineWords line) 0)) text
-    (askDevice kept room size (lineWords line))))
+    (pick (isStart (wordOf (lineWords line) 0)) text
+    (askDevice kept room size (lineWords line)))))
 
 -- ---- what `ask` answers of it
 

@@ -1,9 +1,10 @@
-// What a line of a script asks: it is answered at once, as the commands on frames, on CRCs and on the
-// store's bytes are, or it is a call of the device, by its number. The device is not here.
+// What a line of a script asks: it is answered at once, as the commands on frames, on CRCs, on the
+// startup of RFC 6581 and on the store's bytes are, or it is a call of the device, by its number. The
+// device is not here.
 //
 // Read `Asked` first, then `ask`. `call` makes a call of a line's words, `shape` says which call a
 // name stands for, `store` shows and sets the store's bytes. A line's words, and the commands on
-// frames, are in the crate `command`, those on CRCs in `sums`.
+// frames, are in the crate `command`, those on CRCs in `sums`, those on the startup in `starting`.
 use crate::call::ask_call;
 use command::answer::bad;
 use command::args::Words;
@@ -12,6 +13,7 @@ use command::args::split;
 use command::args::word;
 use command::frames::is_frame;
 use command::frames::run;
+use starting::is_start;
 use sums::is_sum;
 use wire::copy::same;
 ghost use mathlib.Core.Bool.{true};
@@ -117,6 +119,9 @@ pub fn ask(
     }
     if is_sum(word(line, words, 0)) {
         return answered(sums::run(line, words, bytes, text));
+    }
+    if is_start(word(line, words, 0)) {
+        return answered(starting::run(line, words, bytes, frame, text));
     }
     ask_device(line, words, kept, bytes, store, text)
 }

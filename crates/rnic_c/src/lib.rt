@@ -3,7 +3,8 @@
 // receive by itself. A call reads what it needs of the block and writes back what changed (`device`).
 //
 // Read `rnic_c_call` first. The crate `calls` has the numbers of the calls and the words of the answers;
-// include/rnic.h has both for C. `message` has the writer for messages.
+// include/rnic.h has both for C. `message` has the writer for messages, and `startup` the frames that open a
+// connection and what the two sides agree by them.
 ghost use mathlib.Core.Path.{_≡_};
 ghost use lib.ListN.{length};
 ghost use Rattle.calls.specs.Call.{called, calledStore, calledReceive, calledOffer};
@@ -34,6 +35,7 @@ use device::window::lowest_free;
 use device::window::register;
 
 pub mod message;
+pub mod startup;
 
 // A call by its number on a device that the caller holds, with the call's nine numbers, its bytes and the
 // store; the answer's words.

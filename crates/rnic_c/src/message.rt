@@ -60,7 +60,7 @@ pub extern "C" fn rnic_c_message_next(
 }
 
 // The words of a writer's answer.
-fn written_words(written: Written) -> [u64; 2]
+pub(crate) fn written_words(written: Written) -> [u64; 2]
     ensures { λ r. ⌜ r ≡ writtenWords written ⌝ }
 {
     match written {

@@ -1,10 +1,13 @@
-//! The header and this crate say the same: the words of a device, the rooms, the calls' numbers and the answers' kinds.
+//! The header and this crate say the same: the words of a device, the rooms, the calls' numbers, the answers' kinds, and
+//! startup's words and kinds.
 
 use std::fs;
+use std::mem::offset_of;
 use std::path::Path;
 
-use host::raw::{call, kind, written, Arguments, Rnic, RnicMessage, Words, Written};
-use host::raw::{DEVICE_WORDS, ROOM, ROOMS};
+use host::raw::{call, kind, startup, written, Arguments, Rnic, RnicMessage, Words, Written};
+use host::raw::{RnicStartup, RnicTerms, DEVICE_WORDS, ROOM, ROOMS};
+use host::{DEPTH_UNSAID, KIND_READ, KIND_SEND, KIND_WRITE};
 use oracle::mpa::MAX_FPDU;
 use oracle::state::HELD;
 
@@ -25,8 +28,12 @@ fn number_after(header: &str, text: &str) -> Option<u64> {
     let (rest, None) = (found.next()?, found.next()) else {
         return None;
     };
-    let digits = rest.split(|next: char| !next.is_ascii_digit()).next()?;
-    digits.parse().ok()
+    let (digits, base) = match rest.strip_prefix("0x") {
+        Some(digits) => (digits, 16),
+        None => (rest, 10),
+    };
+    let digits = digits.split(|next: char| !next.is_digit(base)).next()?;
+    u64::from_str_radix(digits, base).ok()
 }
 
 #[test]
@@ -79,8 +86,40 @@ fn header_and_crate_agree() {
         ("NOT_WRITTEN", written::NOT_WRITTEN),
         ("WROTE", written::WROTE),
         ("NO_MORE", written::NO_MORE),
+        ("STARTUP_REFUSED", startup::REFUSED),
+        ("STARTUP_FIRST", startup::FIRST),
+        ("STARTUP_SECOND", startup::SECOND),
+        ("STARTUP_ENHANCED", startup::ENHANCED),
+        ("STARTUP_WAIT", startup::WAIT),
+        ("KIND_SEND", KIND_SEND),
+        ("KIND_WRITE", KIND_WRITE),
+        ("KIND_READ", KIND_READ),
     ] {
         let found = number_after(&header, &format!(" RNIC_{name} = "));
         assert_eq!(found, Some(number), "{name}");
     }
+}
+
+/// The fields of terms and of a startup frame, which the header names, stand one word after the other.
+#[test]
+fn fields_are_words() {
+    assert_eq!(defined(&header(), "RNIC_DEPTH_UNSAID"), Some(DEPTH_UNSAID));
+    let terms = [
+        offset_of!(RnicTerms, peer),
+        offset_of!(RnicTerms, ird),
+        offset_of!(RnicTerms, ord),
+        offset_of!(RnicTerms, kinds),
+        size_of::<RnicTerms>(),
+    ];
+    assert_eq!(terms, [0, 8, 16, 24, 32]);
+    let frame = [
+        offset_of!(RnicStartup, kind),
+        offset_of!(RnicStartup, total),
+        offset_of!(RnicStartup, start),
+        offset_of!(RnicStartup, crc),
+        offset_of!(RnicStartup, declined),
+        offset_of!(RnicStartup, terms),
+        size_of::<RnicStartup>(),
+    ];
+    assert_eq!(frame, [0, 8, 16, 24, 32, 40, 72]);
 }

@@ -1,5 +1,5 @@
-//! The C interface as a Rust program sees it: its layout, its calls, its CRC, its messages, bytes cut anywhere, the stored
-//! scripts, and random nights beside the second program.
+//! The C interface as a Rust program sees it: its layout, its calls, its CRC, its messages, bytes cut anywhere, startup, the
+//! stored scripts, and random nights beside the second program.
 
 mod calls;
 mod crc;
@@ -10,5 +10,6 @@ mod layout;
 mod messages;
 mod nights;
 mod stack;
+mod startup;
 mod stored;
 mod support;

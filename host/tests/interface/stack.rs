@@ -5,9 +5,11 @@
 use std::collections::BTreeMap;
 
 use host::raw::{call, kind, rnic_c_call, rnic_c_held, rnic_c_offer, rnic_c_receive};
+use host::raw::{rnic_c_agree_answer, rnic_c_agree_settle};
 use host::raw::{rnic_c_crc32c, rnic_c_crc32c_join, rnic_c_crc32c_update};
 use host::raw::{rnic_c_fpdu_write, rnic_c_message_next, rnic_c_message_send};
 use host::raw::{rnic_c_message_write, Rnic, RnicMessage, Words, Written, ROOM};
+use host::raw::{rnic_c_startup_read, rnic_c_startup_write, RnicStartup, RnicTerms};
 use oracle::command::Command;
 
 use crate::header::{defined, header};
@@ -275,6 +277,97 @@ fn next_depths() -> [usize; 2] {
     most
 }
 
+/// Gives the most bytes of stack that reading a startup frame takes, and writing one: of each kind, refused and not.
+fn startup_depths() -> [usize; 2] {
+    let data = [7u8; 513];
+    let mut out = [0u8; 600];
+    let mut answer: Written = [0; 2];
+    let mut stack = Painted::new();
+    let mut most = [0; 2];
+    for (kind, length) in [0, 1, 2, 3, 4]
+        .iter()
+        .flat_map(|kind| [(*kind, 0), (*kind, 508), (*kind, 513)])
+    {
+        let terms = RnicTerms {
+            peer: 1,
+            ird: 128,
+            ord: 128,
+            kinds: 7,
+        };
+        let frame = RnicStartup {
+            kind,
+            total: 0,
+            start: 0,
+            crc: 1,
+            declined: 1,
+            terms,
+        };
+        let mut found = frame;
+        let (given, told) = (&raw const frame as usize, &raw mut found as usize);
+        let (to, written) = (out.as_mut_ptr() as usize, &raw mut answer as usize);
+        for (reply, room) in [(1, 600), (0, 600), (1, 10)] {
+            let words = [
+                reply,
+                given,
+                data.as_ptr() as usize,
+                length,
+                to,
+                room,
+                written,
+                0,
+            ];
+            // SAFETY: these are the arguments of the entries in their order, and all that they point at is held for the calls.
+            most[1] = most[1].max(unsafe { stack.call(rnic_c_startup_write as *const (), words) });
+        }
+        for bytes in [0, 19, 20, 24, 600] {
+            for reply in [0, 1] {
+                let words = [reply, to, bytes, told, 0, 0];
+                // SAFETY: as above.
+                most[0] =
+                    most[0].max(unsafe { stack.call(rnic_c_startup_read as *const (), words) });
+            }
+        }
+    }
+    most
+}
+
+/// Gives the most bytes of stack that answering terms and settling takes, refused and not.
+fn agree_depth() -> usize {
+    let mut stack = Painted::new();
+    let mut most = 0;
+    let numbers = [0, 1, 7, 0x3FFF, 0x4000];
+    for (ird, ord) in numbers
+        .iter()
+        .flat_map(|ird| numbers.map(|ord| (*ird, ord)))
+    {
+        for (peer, kinds) in [(0, 0), (0, 7), (1, 1), (1, 2), (1, 4), (1, 8)] {
+            let own = RnicTerms {
+                peer,
+                ird: 7,
+                ord: 7,
+                kinds: 3,
+            };
+            let other = RnicTerms {
+                peer,
+                ird,
+                ord,
+                kinds,
+            };
+            let (mut reply, mut kept) = (own, own);
+            let (mine, theirs) = (&raw const own as usize, &raw const other as usize);
+            let (said, keeps) = (&raw mut reply as usize, &raw mut kept as usize);
+            let answer = [mine, theirs, said, keeps, 0, 0];
+            let settle = [mine, theirs, keeps, 0, 0, 0];
+            // SAFETY: the arguments are pointers to terms that are held.
+            unsafe {
+                most = most.max(stack.call(rnic_c_agree_answer as *const (), answer));
+                most = most.max(stack.call(rnic_c_agree_settle as *const (), settle));
+            }
+        }
+    }
+    most
+}
+
 #[test]
 fn stack_of_the_entries() {
     let columns = [false, true].map(depths);
@@ -311,6 +404,12 @@ fn stack_of_the_entries() {
     );
     let [next, fpdu] = next_depths();
     println!("rnic_c_message_next: {next}\nrnic_c_fpdu_write: {fpdu}");
+    let [read, write] = startup_depths();
+    println!("rnic_c_startup_read: {read}\nrnic_c_startup_write: {write}");
+    println!(
+        "rnic_c_agree_answer, rnic_c_agree_settle: {}",
+        agree_depth()
+    );
     assert_eq!(columns[0].len(), 41, "every call and answer is met");
     let most = [
         ("RNIC_C_CALL_STACK", called.map(|(_, depth)| *depth).max()),
@@ -323,6 +422,9 @@ fn stack_of_the_entries() {
         ("RNIC_C_MESSAGE_STACK", Some(begin_depth())),
         ("RNIC_C_MESSAGE_NEXT_STACK", Some(next)),
         ("RNIC_C_FPDU_WRITE_STACK", Some(fpdu)),
+        ("RNIC_C_STARTUP_READ_STACK", Some(read)),
+        ("RNIC_C_STARTUP_WRITE_STACK", Some(write)),
+        ("RNIC_C_AGREE_STACK", Some(agree_depth())),
     ];
     for (name, depth) in most {
         let stated = defined(&header(), name);

@@ -19,6 +19,9 @@ fn needs_no_device(line: &[u8]) -> bool {
                 | Command::Unframe { .. }
                 | Command::Startup { .. }
                 | Command::Unstartup { .. }
+                | Command::Startup2 { .. }
+                | Command::Unstartup2 { .. }
+                | Command::Agree { .. }
                 | Command::Crc { .. }
                 | Command::Join { .. }
                 | Command::MessageWrite { .. }

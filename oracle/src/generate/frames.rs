@@ -1,4 +1,4 @@
-//! Scripts of the stateless commands: frames written and read, whole and damaged, and CRCs.
+//! Scripts of the stateless commands: frames written and read, whole and damaged, startups agreed on, and CRCs.
 
 use std::io::{self, Write};
 
@@ -6,6 +6,7 @@ use super::malformed::{long_line, malform};
 use super::pieces::crc_line;
 use super::prng::Prng;
 use super::startups::{startup, unstartup};
+use super::startups2::{agree, odd_word, startup2, unstartup2};
 use crate::crc::crc_field;
 use crate::hex;
 use crate::mpa::{fpdu_total, CRC_FIELD, LENGTH_FIELD, MAX_ULPDU};
@@ -23,13 +24,17 @@ pub fn write_script(seed: u64, count: u64, mut out: impl Write) -> io::Result<()
 /// Gives one line: most often a command, now and then one oddly written.
 pub fn line(prng: &mut Prng) -> Vec<u8> {
     let short = prng.percent(12);
-    let command = match prng.below(100) {
+    let command = match prng.below(145) {
         0..=1 => format!("# {}", prng.draw()),
         2..=23 => fpdu(prng, short),
         24..=52 => unframe(prng, short),
         53..=66 => startup(prng, short),
         67..=85 => unstartup(prng, short),
-        _ => crc_line(prng, short),
+        86..=99 => crc_line(prng, short),
+        100..=113 => startup2(prng, short),
+        114..=130 => unstartup2(prng, short),
+        131..=142 => agree(prng),
+        _ => odd_word(prng),
     };
     let command = command.into_bytes();
     match (short, prng.below(150)) {
@@ -46,8 +51,8 @@ const FORMER_LIMIT: u64 = 2048;
 fn ulpdu_length(prng: &mut Prng, short: bool) -> usize {
     let length = match prng.below(100) {
         _ if short => prng.below(30),
-        0..=81 => prng.below(41),
-        82..=84 => near(prng, MAX_ULPDU as u64),
+        0..=78 => prng.below(41),
+        79..=84 => near(prng, MAX_ULPDU as u64),
         85 | 86 => near(prng, FORMER_LIMIT),
         87..=97 => prng.below(300),
         98 => prng.below(2500),

@@ -18,3 +18,4 @@ mod receiving;
 pub mod samples;
 pub mod segments;
 mod startups;
+mod startups2;

@@ -17,7 +17,7 @@ fn data_length(prng: &mut Prng, short: bool) -> usize {
 }
 
 /// Names the role in a script.
-fn role_word(role: Role) -> &'static str {
+pub(super) fn role_word(role: Role) -> &'static str {
     match role {
         Role::Request => "req",
         Role::Reply => "rep",
@@ -55,7 +55,7 @@ pub(super) fn unstartup(prng: &mut Prng, short: bool) -> String {
 }
 
 /// Damages a startup frame in one place.
-fn damage_startup(prng: &mut Prng, frame: &mut Vec<u8>) {
+pub(super) fn damage_startup(prng: &mut Prng, frame: &mut Vec<u8>) {
     if frame.len() < HEADER {
         return;
     }
