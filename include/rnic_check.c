@@ -428,6 +428,7 @@ int main(void) {
     call("register over a buffer", RNIC_REGISTER, 1, 7, 0, 1, 575, 1, RNIC_REFUSED, 19, 0);
     call("post over a window", RNIC_POST, 0, 355, 1, 0, 0, 0, RNIC_REFUSED, 19, 0);
     call("take", RNIC_TAKE, 0, 0, 0, 0, 0, 0, RNIC_REFUSED, 11, 0);
+    call("state with a buffer", RNIC_STATE, 0, 0, 0, 0, 0, 0, RNIC_STATED, RNIC_STREAM_OPEN, 1);
     check_offer();
     check_write();
     check_gauge();
@@ -438,7 +439,9 @@ int main(void) {
     check_frames();
     check_frames_refused();
     check_agree();
-    call("no call", 12, 0, 0, 0, 0, 0, 0, RNIC_REFUSED, 1, 0);
+    call("state", RNIC_STATE, 0, 0, 0, 0, 0, 0, RNIC_STATED, RNIC_STREAM_CLOSED, 0);
+    call("state of no stream", RNIC_STATE, 16, 0, 0, 0, 0, 0, RNIC_REFUSED, 1, 0);
+    call("no call", 13, 0, 0, 0, 0, 0, 0, RNIC_REFUSED, 1, 0);
     if (!wrong) {
         puts("ok");
     }

@@ -2,7 +2,7 @@
 
 use std::hint::black_box;
 
-use host::{Rooms, Window, RIGHT_READ, RIGHT_WRITE};
+use rnic::{Rooms, Window, RIGHT_READ, RIGHT_WRITE};
 use oracle::mpa::CRC_FIELD;
 use oracle::state::Device as Second;
 

@@ -44,7 +44,7 @@ pub fn write() {
 /// Times the ways on the same bytes, once they have agreed on them; the aims are rates, beside one table and eight.
 fn row(length: usize, one: Option<f64>, eight: Option<f64>) {
     let bytes = Prng::new(length as u64).bytes(length);
-    let mut ways: Vec<fn(&[u8]) -> u32> = vec![host::crc32c, crc32c, eight_tables, bit_by_bit];
+    let mut ways: Vec<fn(&[u8]) -> u32> = vec![rnic::crc32c, crc32c, eight_tables, bit_by_bit];
     ways.extend(processor::routine());
     assert!(ways.iter().all(|way| way(&bytes) == crc32c(&bytes)));
     let work = |way: &fn(&[u8]) -> u32| {
@@ -70,7 +70,7 @@ fn row(length: usize, one: Option<f64>, eight: Option<f64>) {
 /// Times a join, once both programs have agreed on it.
 fn joined(length: u32) {
     let (first, second) = (0x1234_5678, 0x9ABC_DEF0);
-    let ways: [fn(u32, u32, u32) -> u32; 2] = [host::crc32c_join, pieces::join];
+    let ways: [fn(u32, u32, u32) -> u32; 2] = [rnic::crc32c_join, pieces::join];
     assert_eq!(
         ways[0](first, second, length),
         ways[1](first, second, length)

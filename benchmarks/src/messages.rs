@@ -6,7 +6,7 @@
 
 use std::hint::black_box;
 
-use host::{write_fpdu, Message};
+use rnic::{write_fpdu, Message};
 use oracle::generate::prng::Prng;
 use oracle::mpa;
 use oracle::sender;

@@ -2,7 +2,7 @@
 
 use std::hint::black_box;
 
-use host::{Rooms, Window};
+use rnic::{Rooms, Window};
 use oracle::command::{parse, Command, Line};
 use oracle::generate::nights::{write_spoilt_script, FAULTY};
 use oracle::state::{Device as Second, HELD};

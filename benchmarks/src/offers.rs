@@ -2,7 +2,7 @@
 
 use std::hint::black_box;
 
-use host::Rooms;
+use rnic::Rooms;
 use oracle::mpa::CRC_FIELD;
 use oracle::state::Device as Second;
 

@@ -2,7 +2,7 @@
 
 use std::marker::PhantomData;
 
-use host::{Error, Offered, Reading, Received, Window};
+use rnic::{Error, Offered, Reading, Received, Window};
 use oracle::gauge::Reading as SecondReading;
 use oracle::mpa::{read_fpdu, Frame, CRC_FIELD};
 use oracle::offer::Offered as SecondOffered;
@@ -78,7 +78,7 @@ pub trait Receiver {
 }
 
 /// Ours, through the C interface.
-pub type Ours = host::Device;
+pub type Ours = rnic::Device;
 
 /// Gives the outcome of one of our calls by what it gives back.
 fn ours<T>(answer: Result<T, Error>, given: impl FnOnce(T) -> Outcome) -> Outcome {
@@ -91,58 +91,58 @@ fn ours<T>(answer: Result<T, Error>, given: impl FnOnce(T) -> Outcome) -> Outcom
 
 impl Receiver for Ours {
     fn new() -> Self {
-        host::Device::new()
+        rnic::Device::new()
     }
 
     fn open(&mut self, length: u64, parts: [(u64, u64); 4]) -> Outcome {
         let ranges = parts.map(|(start, end)| start..end);
-        ours(host::Device::open(self, length, ranges), |()| Outcome::Done)
+        ours(rnic::Device::open(self, length, ranges), |()| Outcome::Done)
     }
 
     fn open_stream(&mut self, stream: u64, crc: bool) -> Outcome {
-        let opened = host::Device::open_stream(self, stream, crc);
+        let opened = rnic::Device::open_stream(self, stream, crc);
         ours(opened, |()| Outcome::Done)
     }
 
     fn close_stream(&mut self, stream: u64) -> Outcome {
-        let closed = host::Device::close_stream(self, stream);
+        let closed = rnic::Device::close_stream(self, stream);
         ours(closed, |_| Outcome::Done)
     }
 
     fn register(&mut self, number: u64, window: Window) -> Outcome {
-        let registered = host::Device::register(self, number, window);
+        let registered = rnic::Device::register(self, number, window);
         ours(registered, |()| Outcome::Done)
     }
 
     fn post(&mut self, stream: u64, start: u64, length: u64) -> Outcome {
-        let posted = host::Device::post(self, stream, start, length);
+        let posted = rnic::Device::post(self, stream, start, length);
         ours(posted, |()| Outcome::Done)
     }
 
     fn drop_window(&mut self, window: u64) -> Outcome {
-        ours(host::Device::drop_window(self, window), |()| Outcome::Done)
+        ours(rnic::Device::drop_window(self, window), |()| Outcome::Done)
     }
 
     fn take(&mut self, stream: u64) -> Outcome {
-        ours(host::Device::take(self, stream), |_| Outcome::Done)
+        ours(rnic::Device::take(self, stream), |_| Outcome::Done)
     }
 
     fn live(&mut self, domain: u64) -> Outcome {
-        let count = host::Device::live_count(self, domain);
+        let count = rnic::Device::live_count(self, domain);
         ours(count, |count| Outcome::Counted(u64::from(count)))
     }
 
     fn free(&mut self, domain: u64) -> Outcome {
-        let slot = host::Device::lowest_free(self, domain);
+        let slot = rnic::Device::lowest_free(self, domain);
         ours(slot, |slot| Outcome::Counted(u64::from(slot)))
     }
 
     fn tick(&mut self, domain: u64) -> Outcome {
-        ours(host::Device::tick(self, domain), |()| Outcome::Done)
+        ours(rnic::Device::tick(self, domain), |()| Outcome::Done)
     }
 
     fn reading(&mut self, domain: u64) -> Outcome {
-        let reading = host::Device::reading(self, domain);
+        let reading = rnic::Device::reading(self, domain);
         ours(reading, |reading| match reading {
             Reading::Quiet => gauged(0.0, 0.0),
             Reading::Steady(level) => gauged(level, 0.0),
@@ -151,19 +151,19 @@ impl Receiver for Ours {
     }
 
     fn receive(&mut self, store: &mut [u8], stream: u64, bytes: &[u8]) -> Outcome {
-        let received = host::Device::receive(self, store, stream, bytes);
+        let received = rnic::Device::receive(self, store, stream, bytes);
         ours(received, |received| match received {
             Received::Wait(total) => Outcome::Wait(total),
             Received::Taken { total, event } => Outcome::Taken {
                 total,
-                sent: matches!(event, host::Event::Send { .. }),
+                sent: matches!(event, rnic::Event::Send { .. }),
             },
             Received::Ended(fault) => Outcome::Refused(fault.number),
         })
     }
 
     fn offer(&mut self, store: &mut [u8], rooms: &mut [u8], stream: u64, bytes: &[u8]) -> Outcome {
-        let offered = host::Device::offer(self, store, rooms, stream, bytes);
+        let offered = rnic::Device::offer(self, store, rooms, stream, bytes);
         ours(offered, |offered| match offered {
             Offered::Kept { taken } => Outcome::Kept(taken),
             Offered::Taken {
@@ -173,7 +173,7 @@ impl Receiver for Ours {
             } => Outcome::Completed {
                 taken,
                 total,
-                sent: matches!(event, host::Event::Send { .. }),
+                sent: matches!(event, rnic::Event::Send { .. }),
             },
             Offered::Ended(fault) => Outcome::Refused(fault.number),
         })
@@ -301,7 +301,7 @@ pub struct OurRoutine;
 
 impl Routine for OurRoutine {
     fn crc(bytes: &[u8]) -> u32 {
-        host::crc32c(bytes)
+        rnic::crc32c(bytes)
     }
 }
 

@@ -1,6 +1,6 @@
 //! Refusals: of the peer's bytes, which end the stream, and of the host's own calls.
 
-use host::RIGHT_READ;
+use rnic::RIGHT_READ;
 use oracle::generate::draft::{frame, Draft};
 use oracle::mpa::{CRC_FIELD, LENGTH_FIELD};
 use oracle::rdmap;

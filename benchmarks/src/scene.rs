@@ -1,7 +1,7 @@
 //! What is received, and by what device: eight FPDUs, whose payloads go to the front of the store. Windows and buffers
 //! stand one after the other, since no two that peers may write to share a byte.
 
-use host::Window;
+use rnic::Window;
 use oracle::ddp::{TAGGED_HEADER, UNTAGGED_HEADER};
 use oracle::generate::draft::{frame, Draft};
 use oracle::generate::prng::Prng;

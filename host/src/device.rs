@@ -3,28 +3,51 @@
 use std::fmt;
 use std::ops::Range;
 
-use crate::answer::{Closed, Error, Offered, ReadRequest, Reading, Received};
+use crate::answer::{Closed, Error, Offered, ReadRequest, Reading, Received, StreamState};
 use crate::raw::{self, call, Arguments, Rnic, Words};
 use crate::words;
+
+/// The opcode of a Send.
+pub const OPCODE_SEND: u8 = 3;
+/// The opcode of a Send with Invalidate: the window of the STag that it names is dropped.
+pub const OPCODE_SEND_INVALIDATE: u8 = 4;
+/// The opcode of a Send with a solicited event: the receiver is to be woken.
+pub const OPCODE_SEND_SE: u8 = 5;
+/// The opcode of a Send with both.
+pub const OPCODE_SEND_SE_INVALIDATE: u8 = 6;
 
 /// The write bit of a window's rights.
 pub const RIGHT_WRITE: u64 = 1;
 /// The read bit of a window's rights.
 pub const RIGHT_READ: u64 = 2;
 
-/// What a window is registered with; its STag is its number times 256 plus the key.
+/// What a window is registered with; peers name it by its [`stag`].
 #[derive(Clone, Copy, Debug, PartialEq, Eq)]
 pub struct Window {
+    /// The key, 1 to 255, which is not the last one that the window had.
     pub key: u64,
+    /// The tagged offset by which peers name its first byte.
     pub base: u64,
+    /// How many bytes it has, at least 1; base + length is at most 2^64 - 1.
     pub length: u64,
+    /// Where its first byte is in the store, in its domain's part.
     pub place: u64,
+    /// [`RIGHT_WRITE`], [`RIGHT_READ`] or both, added.
     pub rights: u64,
 }
 
-/// A receiver with four domains, which owns its state; the store is lent at each receive, and the rooms at each offer. Two
-/// are equal where their words are, which turn on their calls alone; from then on the same calls have the same answers on
-/// both, offers too where their rooms hold the same bytes.
+/// Gives the STag by which peers name a window, 0 to 63, with its key, 1 to 255: the number times 256, plus the key.
+pub const fn stag(window: u32, key: u32) -> u32 {
+    window.wrapping_mul(256).wrapping_add(key)
+}
+
+/// A receiver with four domains, which owns its state; the store is lent at each receive, and the rooms at each offer.
+///
+/// Domain `d`, 0 to 3, has the streams from `4 * d` and the windows from `16 * d` on, four streams and sixteen windows. Numbers
+/// out of range are refused with 1.
+///
+/// Two devices are equal where their words are, which turn on their calls alone; from then on the same calls have the same
+/// answers on both, offers too where their rooms hold the same bytes.
 #[derive(Clone, PartialEq, Eq)]
 pub struct Device {
     state: Box<Rnic>,
@@ -52,7 +75,8 @@ impl Device {
         }
     }
 
-    /// Opens the device anew over a store of this length with a part for each domain; refused, it is as a new one.
+    /// Opens the device anew over a store of this length, 1 to 16,777,216, with a part for each domain: in order and apart, each
+    /// perhaps empty. Refused, it is as a new one.
     pub fn open(&mut self, length: u64, parts: [Range<u64>; 4]) -> Result<(), Error> {
         let [a, b, c, d] = parts;
         let ends = [
@@ -61,7 +85,7 @@ impl Device {
         words::done(&self.call(call::OPEN, &ends))
     }
 
-    /// Opens a stream with the CRC on or off.
+    /// Opens a stream, 0 to 15, with the CRC on or off, for one connection from behind its startup frames on.
     #[inline]
     pub fn open_stream(&mut self, stream: u64, crc: bool) -> Result<(), Error> {
         words::done(&self.call(call::OPEN_STREAM, &[stream, u64::from(crc)]))
@@ -101,7 +125,8 @@ impl Device {
         words::done(&self.call(call::POST, &[stream, start, length]))
     }
 
-    /// Takes the oldest read that waits on a stream.
+    /// Takes the Read Request that waits longest on a stream; 11 where none does. A Read Request is received as a Write is, with
+    /// [`crate::Event::None`]: to see it, take after what was received.
     #[inline]
     pub fn take(&mut self, stream: u64) -> Result<ReadRequest, Error> {
         words::read_request(&self.call(call::TAKE, &[stream]))
@@ -109,14 +134,20 @@ impl Device {
 
     /// Counts the live windows of a domain.
     #[inline]
-    pub fn live_count(&mut self, domain: u64) -> Result<u32, Error> {
-        words::counted(&self.call(call::LIVE_COUNT, &[domain]))
+    pub fn live_count(&self, domain: u64) -> Result<u32, Error> {
+        words::counted(&self.ask(call::LIVE_COUNT, domain))
     }
 
     /// Gives the lowest free one of a domain's sixteen slots, 16 if there is none.
     #[inline]
-    pub fn lowest_free(&mut self, domain: u64) -> Result<u32, Error> {
-        words::counted(&self.call(call::LOWEST_FREE, &[domain]))
+    pub fn lowest_free(&self, domain: u64) -> Result<u32, Error> {
+        words::counted(&self.ask(call::LOWEST_FREE, domain))
+    }
+
+    /// Says what a stream is, closed, open, or ended and by what, with what waits on it.
+    #[inline]
+    pub fn state(&self, stream: u64) -> Result<StreamState, Error> {
+        words::stated(&self.ask(call::STATE, stream))
     }
 
     /// Takes the count of the bytes placed for a domain since its last tick as a sample of its gauge, and clears it. The first
@@ -128,8 +159,8 @@ impl Device {
 
     /// Gives what a domain's gauge reads as.
     #[inline]
-    pub fn reading(&mut self, domain: u64) -> Result<Reading, Error> {
-        words::reading(&self.call(call::READING, &[domain]))
+    pub fn reading(&self, domain: u64) -> Result<Reading, Error> {
+        words::reading(&self.ask(call::READING, domain))
     }
 
     /// Takes the first FPDU of some bytes for a stream; the whole store is lent. It is refused with 16 while the stream holds
@@ -201,24 +232,43 @@ impl Device {
         for (argument, value) in arguments.iter_mut().zip(given) {
             *argument = *value;
         }
-        let mut answer = [0; 8];
-        let store: &mut [u8] = &mut [];
-        let bytes: &[u8] = &[];
-        // SAFETY: as in `receive`; the two slices are empty, and their pointers are not null.
-        unsafe {
-            raw::rnic_c_call(
-                &mut *self.state,
-                store.as_mut_ptr(),
-                store.len(),
-                number,
-                &arguments,
-                bytes.as_ptr(),
-                bytes.len(),
-                &mut answer,
-            );
-        }
-        answer
+        // SAFETY: the pointer is that of a reference for writing, held for the call.
+        unsafe { call_alone(&mut *self.state, number, &arguments) }
     }
+
+    /// Asks a question, one of the calls that change nothing, about a domain or a stream.
+    #[inline]
+    fn ask(&self, number: u64, about: u64) -> Words {
+        let device = std::ptr::from_ref(&*self.state).cast_mut();
+        // SAFETY: the pointer is that of a reference held for the call, and nothing is written through it: the library's
+        // functions for the questions are lent the device for reading alone. A test asks them of words that cannot be written.
+        unsafe { call_alone(device, number, &[about, 0, 0, 0, 0, 0, 0, 0, 0]) }
+    }
+}
+
+/// Makes a call that is lent neither store nor bytes and gives its answer's words.
+///
+/// # Safety
+/// `device` points at a value that is held for the call, and that nothing else uses meanwhile; of a question it is read alone.
+#[inline]
+unsafe fn call_alone(device: *mut Rnic, number: u64, arguments: &Arguments) -> Words {
+    let mut answer = [0; 8];
+    let store: &mut [u8] = &mut [];
+    let bytes: &[u8] = &[];
+    // SAFETY: the caller answers for the device; the two slices are empty, and their pointers are not null.
+    unsafe {
+        raw::rnic_c_call(
+            device,
+            store.as_mut_ptr(),
+            store.len(),
+            number,
+            arguments,
+            bytes.as_ptr(),
+            bytes.len(),
+            &mut answer,
+        );
+    }
+    answer
 }
 
 /// Gives the CRC-32C of some bytes, by the proved routine that receive uses.

@@ -1,14 +1,18 @@
-//! A device of the proved iWARP receiver, held by a Rust program.
+//! A receiver for iWARP (RDMA over TCP), for Rust programs.
+//!
+//! A program keeps its TCP connections and gives what comes on them to a [`Device`], which checks each frame and places what peers
+//! write in the store, a block of bytes of the program's. There is no I/O here.
 //!
 //! [`Device`] holds the state of four protection domains; the program keeps the store, up to 16 MiB, and lends it at
 //! each [`Device::receive`] and [`Device::offer`]. Every function answers whatever the numbers and bytes are, and none
 //! panics. The work is done by the proved static library; here its answer words become [`Received`], [`Offered`],
 //! [`Closed`], [`ReadRequest`], [`Reading`] or [`Error`], and the words of the state are kept where nothing else writes them.
+//! A [`Refusal`] says what a refusal's number means.
 //!
 //! A peer writes four bytes into a window, which its domain's gauge counts:
 //!
 //! ```
-//! use host::{Device, Event, Reading, Received, Window, RIGHT_WRITE};
+//! use rnic::{Device, Event, Reading, Received, Window, RIGHT_WRITE};
 //!
 //! let mut store = vec![0; 4096];
 //! let mut device = Device::new();
@@ -27,15 +31,15 @@
 //!
 //! device.tick(1)?;
 //! assert_eq!(device.reading(1)?, Reading::Steady(4.0));
-//! # Ok::<(), host::Error>(())
+//! # Ok::<(), rnic::Error>(())
 //! ```
 //!
 //! Bytes that come from TCP are cut anywhere. They are offered, and the device keeps what is not yet an FPDU, in [`Rooms`]
 //! that the program lends with the store. The same write in two pieces, with the front of the next one:
 //!
 //! ```
-//! # use host::{Device, Window, RIGHT_WRITE};
-//! use host::{Event, Offered, Rooms};
+//! # use rnic::{Device, Window, RIGHT_WRITE};
+//! use rnic::{Event, Offered, Rooms};
 //!
 //! # let mut store = vec![0; 4096];
 //! # let mut device = Device::new();
@@ -58,7 +62,7 @@
 //!                 events.push(event);
 //!                 taken
 //!             }
-//!             Offered::Ended(fault) => panic!("the peer's bytes were refused: {fault:?}"),
+//!             Offered::Ended(fault) => return Err(fault.into()),
 //!         };
 //!         rest = &rest[taken..];
 //!     }
@@ -66,7 +70,7 @@
 //! assert_eq!(events, [Event::None]);
 //! assert_eq!(store[1024..1028], [0xDE, 0xAD, 0xBE, 0xEF]);
 //! assert_eq!(device.held(4), 3);
-//! # Ok::<(), host::Error>(())
+//! # Ok::<(), Box<dyn std::error::Error>>(())
 //! ```
 //!
 //! A [`Message`] is the other side: what a program sends, one segment after the other, each framed by [`write_fpdu`].
@@ -76,7 +80,7 @@
 //! reads the reply, and makes of its terms what [`settle`] says. Linux's software iWARP asks for one read each way:
 //!
 //! ```
-//! use host::{answer, read_startup, write_startup, Form, Role, Startup, StartupRead, Terms};
+//! use rnic::{answer, read_startup, write_startup, Form, Role, Startup, StartupRead, Terms};
 //!
 //! let request = [
 //!     0x4D, 0x50, 0x41, 0x20, 0x49, 0x44, 0x20, 0x52, 0x65, 0x71, 0x20, 0x46, 0x72, 0x61, 0x6D, 0x65,
@@ -98,21 +102,38 @@
 //! assert_eq!(write_startup(Role::Reply, reply, &[], &mut out)?, 24);
 //! assert_eq!(out[20..], [0, 8, 0, 1]);
 //! assert_eq!(total, 24);
-//! # Ok::<(), host::Error>(())
+//! # Ok::<(), rnic::Error>(())
 //! ```
+
+#![warn(missing_docs)]
 
 mod answer;
 mod device;
 mod message;
+#[allow(missing_docs)]
 pub mod raw;
+mod refusal;
 mod rooms;
 mod startup;
 mod words;
 
-pub use answer::{Closed, Error, Event, Fault, Offered, ReadRequest, Reading, Received};
-pub use device::{crc32c, crc32c_join, crc32c_update, Device, Window, RIGHT_READ, RIGHT_WRITE};
-pub use message::{write_fpdu, Message};
+pub use answer::{
+    Closed, Error, Event, Fault, Offered, ReadRequest, Reading, Received, StreamState,
+};
+pub use device::{crc32c, crc32c_join, crc32c_update, stag, Device, Window};
+pub use device::{OPCODE_SEND, OPCODE_SEND_INVALIDATE, OPCODE_SEND_SE, OPCODE_SEND_SE_INVALIDATE};
+pub use device::{RIGHT_READ, RIGHT_WRITE};
+pub use message::{read_fpdu, write_fpdu, FpduRead, Message};
+pub use refusal::Refusal;
 pub use rooms::Rooms;
 pub use startup::{answer, read_startup, settle, write_startup};
 pub use startup::{Answered, Form, Role, Startup, StartupRead, Terms};
 pub use startup::{DEPTH_UNSAID, KIND_READ, KIND_SEND, KIND_WRITE};
+
+/// The version of this crate, which is that of the header.
+pub const VERSION: &str = env!("CARGO_PKG_VERSION");
+
+/// Gives the version of this crate.
+pub const fn version() -> &'static str {
+    VERSION
+}

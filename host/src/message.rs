@@ -1,7 +1,7 @@
 //! Messages that a program sends: each is begun, asked for its segments, and each segment framed.
 
 use crate::answer::Error;
-use crate::raw::{self, written, RnicMessage, Written};
+use crate::raw::{self, kind, written, FpduWords, RnicMessage, Written};
 
 /// A Write or a Send under way, without its bytes, which are lent for each segment. A segment is a ULPDU, which
 /// [`write_fpdu`] frames.
@@ -68,6 +68,44 @@ pub fn write_fpdu(ulpdu: &[u8], out: &mut [u8]) -> Result<usize, Error> {
         );
     }
     length(answer)
+}
+
+/// What the first FPDU of some bytes is.
+#[derive(Clone, Copy, Debug, PartialEq, Eq)]
+pub enum FpduRead<'a> {
+    /// It is not whole: so many bytes are needed.
+    Wait(usize),
+    /// It is whole.
+    Taken {
+        /// The length of the whole FPDU.
+        total: usize,
+        /// The ULPDU in it.
+        ulpdu: &'a [u8],
+    },
+}
+
+/// Reads the first FPDU of some bytes, and checks its CRC where that is on. Refused: 20 for a ULPDU over 8,192 bytes, 21 for a wrong
+/// CRC.
+#[inline]
+pub fn read_fpdu(crc: bool, bytes: &[u8]) -> Result<FpduRead<'_>, Error> {
+    let mut answer: FpduWords = [0; 4];
+    // SAFETY: the pointers are those of slices and values that are held for the call, with their lengths.
+    unsafe {
+        raw::rnic_c_fpdu_read(u64::from(crc), bytes.as_ptr(), bytes.len(), &mut answer);
+    }
+    let unexpected = Error::Unexpected([answer[0], answer[1], answer[2], answer[3], 0, 0, 0, 0]);
+    match answer {
+        [kind::WAIT, total, 0, 0] => Ok(FpduRead::Wait(total as usize)),
+        [kind::TAKEN, total, start, length] => {
+            let ulpdu = bytes.get(start as usize..start.saturating_add(length) as usize);
+            let total = total as usize;
+            ulpdu.map_or(Err(unexpected), |ulpdu| {
+                Ok(FpduRead::Taken { total, ulpdu })
+            })
+        }
+        [kind::REFUSED, number, 0, 0] => Err(refused(number).unwrap_or(unexpected)),
+        _ => Err(unexpected),
+    }
 }
 
 /// Gives a message that was begun, or the refusal.

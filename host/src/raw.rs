@@ -37,6 +37,9 @@ pub struct RnicMessage {
 /// The two words of a writer's answer, its kind and its number.
 pub type Written = [u64; 2];
 
+/// What the reader of FPDUs answers: a kind of `kind`, REFUSED, WAIT or TAKEN, and what goes with it.
+pub type FpduWords = [u64; 4];
+
 /// The kinds of the writers' answers.
 pub mod written {
     pub const NOT_WRITTEN: u64 = 0;
@@ -89,6 +92,15 @@ pub mod call {
     pub const RECEIVE: u64 = 9;
     pub const TICK: u64 = 10;
     pub const READING: u64 = 11;
+    pub const STATE: u64 = 12;
+}
+
+/// What a stream is, in the second word of its state.
+pub mod stream {
+    pub const CLOSED: u64 = 0;
+    pub const OPEN: u64 = 1;
+    pub const ENDED: u64 = 2;
+    pub const TERMINATED: u64 = 3;
 }
 
 /// The kinds of answers, which stand in an answer's first word.
@@ -108,6 +120,7 @@ pub mod kind {
     pub const QUIET: u64 = 12;
     pub const STEADY: u64 = 13;
     pub const FALLING: u64 = 14;
+    pub const STATED: u64 = 15;
 }
 
 extern "C" {
@@ -231,6 +244,12 @@ extern "C" {
         out_len: usize,
         answer: *mut Written,
     );
+
+    /// Reads the first FPDU of some bytes, with the CRC off where `crc` is 0, else on.
+    ///
+    /// # Safety
+    /// As for `rnic_c_startup_read`.
+    pub fn rnic_c_fpdu_read(crc: u64, bytes: *const u8, bytes_len: usize, answer: *mut FpduWords);
 
     /// Reads the startup frame at the start of some bytes: a request where `reply` is 0, else a reply.
     ///

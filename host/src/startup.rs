@@ -17,53 +17,69 @@ pub const KIND_READ: u64 = 1;
 /// Which of the two startup frames: the initiator's request or the responder's reply.
 #[derive(Clone, Copy, Debug, PartialEq, Eq)]
 pub enum Role {
+    /// The initiator's.
     Request,
+    /// The responder's.
     Reply,
 }
 
-/// What a side says of itself: whether the connection is peer to peer, how many reads it takes at a time (IRD) and makes at a
-/// time (ORD), and the kinds of a first message that it can do, added, which count in the peer-to-peer model alone.
+/// What a side says of itself.
 #[derive(Clone, Copy, Debug, PartialEq, Eq)]
 pub struct Terms {
+    /// Whether the connection is peer to peer.
     pub peer: bool,
+    /// How many reads it takes at a time, at most 16,383.
     pub ird: u64,
+    /// How many reads it makes at a time, at most 16,383.
     pub ord: u64,
+    /// The kinds of a first message that it can do, added, which count in the peer-to-peer model alone.
     pub kinds: u64,
 }
 
-/// The form of a startup frame: revision 1, revision 2, or revision 2 with the flag S and the side's terms.
+/// The form of a startup frame.
 #[derive(Clone, Copy, Debug, PartialEq, Eq)]
 pub enum Form {
+    /// Revision 1.
     First,
+    /// Revision 2 without the flag S.
     Second,
+    /// Revision 2 with the flag S and the side's terms.
     Enhanced(Terms),
 }
 
-/// A startup frame without its private data: whether the side asks for the CRC, whether a reply declines, and its form.
+/// A startup frame without its private data.
 #[derive(Clone, Copy, Debug, PartialEq, Eq)]
 pub struct Startup {
+    /// Whether the side asks for the CRC: it is on where one of the two does.
     pub crc: bool,
+    /// Whether a reply declines the connection.
     pub declined: bool,
+    /// The revision, and the terms where it has them.
     pub form: Form,
 }
 
 /// What reading a startup frame gives where it is not refused.
 #[derive(Clone, Copy, Debug, PartialEq, Eq)]
 pub enum StartupRead<'a> {
-    /// The frame is not whole: so many bytes are waited for.
+    /// The frame is not whole: so many bytes are needed, with those that are there.
     Wait(usize),
-    /// The frame of this total length, and its private data behind the terms; the bytes behind it are the first FPDU's.
+    /// The frame is there.
     Taken {
+        /// Its length; the bytes behind it are the first FPDU's.
         total: usize,
+        /// The frame.
         frame: Startup,
+        /// Its private data, behind the terms.
         private_data: &'a [u8],
     },
 }
 
-/// What a responder answers: the terms that its reply says, and those that it keeps to.
+/// What a responder answers.
 #[derive(Clone, Copy, Debug, PartialEq, Eq)]
 pub struct Answered {
+    /// The terms that its reply says.
     pub reply: Terms,
+    /// Those that it keeps to.
     pub kept: Terms,
 }
 

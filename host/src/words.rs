@@ -1,7 +1,8 @@
 //! An answer's words, read as what the call made answers.
 
+use crate::answer::StreamState;
 use crate::answer::{Closed, Error, Event, Fault, Offered, ReadRequest, Reading, Received};
-use crate::raw::{kind, Words};
+use crate::raw::{kind, stream, Words};
 
 /// Gives what a reader finds in the words, or the refusal or the words where it finds nothing.
 #[inline]
@@ -75,6 +76,33 @@ pub(crate) fn reading(words: &Words) -> Result<Reading, Error> {
             peak: f64::from_bits(peak),
         }),
         _ => None,
+    })
+}
+
+/// Reads the answer of asking for a stream's state.
+#[inline]
+pub(crate) fn stated(words: &Words) -> Result<StreamState, Error> {
+    read(words, |words| {
+        let [kind::STATED, state, buffers, reads, number, layer, etype, code] = *words else {
+            return None;
+        };
+        let (buffers, reads) = (field(buffers)?, field(reads)?);
+        match (state, [number, layer, etype, code]) {
+            (stream::CLOSED, [0, 0, 0, 0]) if (buffers, reads) == (0, 0) => {
+                Some(StreamState::Closed)
+            }
+            (stream::OPEN, [0, 0, 0, 0]) => Some(StreamState::Open { buffers, reads }),
+            (stream::TERMINATED, [0, 0, 0, 0]) => Some(StreamState::Terminated { buffers, reads }),
+            (stream::ENDED, _) => {
+                let fault = fault(&[kind::ENDED, number, layer, etype, code, 0, 0, 0])?;
+                Some(StreamState::Ended {
+                    fault,
+                    buffers,
+                    reads,
+                })
+            }
+            _ => None,
+        }
     })
 }
 
@@ -196,6 +224,27 @@ mod tests {
         let falling = [kind::FALLING, eight, 20f64.to_bits(), 0, 0, 0, 0, 0];
         let (level, peak) = (8.0, 20.0);
         assert_eq!(reading(&falling), Ok(Reading::Falling { level, peak }));
+    }
+
+    /// The same of a stream's state.
+    #[test]
+    fn words_that_are_no_state() {
+        let large = 1 << 40;
+        for words in [
+            [kind::COUNTED, 0, 0, 0, 0, 0, 0, 0],
+            [kind::STATED, 4, 0, 0, 0, 0, 0, 0],
+            [kind::STATED, stream::CLOSED, 1, 0, 0, 0, 0, 0],
+            [kind::STATED, stream::CLOSED, 0, 0, 0, 0, 0, 1],
+            [kind::STATED, stream::OPEN, large, 0, 0, 0, 0, 0],
+            [kind::STATED, stream::OPEN, 1, 1, 27, 0, 0, 0],
+            [kind::STATED, stream::ENDED, 1, 1, 27, 1, 1, 256],
+            [kind::STATED, stream::TERMINATED, 1, 1, 0, 1, 0, 0],
+        ] {
+            assert_eq!(stated(&words), Err(Error::Unexpected(words)));
+        }
+        let open = [kind::STATED, stream::OPEN, 2, 3, 0, 0, 0, 0];
+        let (buffers, reads) = (2, 3);
+        assert_eq!(stated(&open), Ok(StreamState::Open { buffers, reads }));
     }
 
     /// The same of an offer, which has no Wait.

@@ -30,6 +30,7 @@ pub enum Command {
         crc: bool,
     },
     Close(u64),
+    State(u64),
     Register {
         window: u64,
         key: u64,
@@ -168,6 +169,7 @@ fn device_command(words: &[&[u8]]) -> Option<Command> {
             crc: on_off(crc)?,
         },
         [b"close", stream] => Command::Close(number(stream)?),
+        [b"state", stream] => Command::State(number(stream)?),
         [b"register", window, key, base, length, place, rights] => Command::Register {
             window: number(window)?,
             key: number(key)?,

@@ -63,8 +63,13 @@ impl Device {
         if record.condition == Condition::Closed {
             return Err(Refusal::NotOpen);
         }
-        let closed = std::mem::take(record);
-        Ok((closed.buffers.len(), closed.reads.len()))
+        Ok(std::mem::take(record).waiting())
+    }
+
+    /// Gives a stream's condition, with the numbers that closing it would give.
+    pub fn state(&self, stream: u64) -> Result<(Condition, (usize, usize)), Refusal> {
+        let record = &self.streams[index(stream, STREAMS)?];
+        Ok((record.condition, record.waiting()))
     }
 
     /// Registers a window; with the write right it shares no byte with what the domain's peers may write to.

@@ -13,7 +13,7 @@ use crate::sender::Message;
 use crate::startup::{read_startup, write_startup};
 use crate::startup2::{read_startup2, write_startup2};
 use crate::state::{Device, HELD};
-use crate::text::{agreed_text, startup2_text, startup_text};
+use crate::text::{agreed_text, startup2_text, startup_text, state_text};
 use crate::text::{answer_text, bad, crc_text, done, offered_text, read_text, refused};
 
 /// Bytes of the program's store.
@@ -73,6 +73,10 @@ impl Interpreter {
             Command::Close(stream) => {
                 let (buffers, reads) = device.close_stream(stream)?;
                 format!("closed {buffers} {reads}")
+            }
+            Command::State(stream) => {
+                let (condition, waiting) = device.state(stream)?;
+                state_text(condition, waiting)
             }
             Command::Register {
                 window,

@@ -76,6 +76,13 @@ pub struct Stream {
     pub held: Vec<u8>,
 }
 
+impl Stream {
+    /// Gives the numbers of its unfinished buffers, the one in fill included, and of its untaken reads.
+    pub fn waiting(&self) -> (usize, usize) {
+        (self.buffers.len(), self.reads.len())
+    }
+}
+
 /// The whole box but for the lent store; `placed` counts each domain's bytes since its last tick.
 #[derive(Clone, Debug, PartialEq)]
 pub struct Device {

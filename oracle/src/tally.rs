@@ -5,6 +5,18 @@ use std::fmt;
 
 use crate::refusal::{FAULTS, REFUSALS};
 
+/// The words that tell answers of one first word apart.
+const NAMED: [&str; 8] = [
+    "taken",
+    "send",
+    "stag",
+    "terminate",
+    "closed",
+    "open",
+    "ended",
+    "terminated",
+];
+
 /// Counts by command word and kind of answer.
 #[derive(Clone, Debug, Default)]
 pub struct Tally {
@@ -71,6 +83,11 @@ pub fn readings() -> [String; 3] {
     ["quiet", "steady", "falling"].map(String::from)
 }
 
+/// Gives every answer that tells a stream's state, without its values.
+pub fn states() -> [String; 4] {
+    ["closed", "open", "ended", "terminated"].map(|state| format!("state {state}"))
+}
+
 /// Gives the words of an answer that are not values: a refusal is kept whole.
 fn answer_kind(answer: &str) -> String {
     if answer.starts_with("refused") {
@@ -78,7 +95,7 @@ fn answer_kind(answer: &str) -> String {
     }
     let mut kind = String::new();
     for word in answer.split(' ').take(9) {
-        let named = ["taken", "send", "stag", "terminate"].contains(&word);
+        let named = NAMED.contains(&word);
         if kind.is_empty() {
             kind.push_str(word);
         } else if named {

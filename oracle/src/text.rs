@@ -7,6 +7,7 @@ use crate::receive::{Answer, Event};
 use crate::refusal::Refusal;
 use crate::startup::Startup;
 use crate::startup2::{Establishment, Startup2};
+use crate::state::Condition;
 
 /// Writes what receive answers.
 pub fn answer_text(answer: Answer) -> String {
@@ -63,6 +64,17 @@ pub fn done(result: Result<(), Refusal>) -> Result<String, Refusal> {
 /// Writes the answer to a line that is no command.
 pub fn bad() -> String {
     String::from("bad")
+}
+
+/// Writes a stream's state, with the buffers and reads that wait on it unless it is closed.
+pub fn state_text(condition: Condition, (buffers, reads): (usize, usize)) -> String {
+    let open = match condition {
+        Condition::Closed => return String::from("state closed"),
+        Condition::Open => String::from("open"),
+        Condition::Faulted(fault) => format!("ended {fault}"),
+        Condition::Terminated => String::from("terminated"),
+    };
+    format!("state {open} {buffers} {reads}")
 }
 
 /// Writes a read.

@@ -3,6 +3,7 @@
 use oracle::command::MAX_LINE;
 use oracle::generate::{frames, messages, nights};
 use oracle::hex;
+use oracle::refusal::FAULTS;
 use oracle::script::run;
 use oracle::state::{DOMAINS, STREAMS_PER_DOMAIN};
 use oracle::tally::{refusals, Tally};
@@ -193,6 +194,40 @@ fn every_reading_is_reached() {
     assert!(answered(&nights, |answer| answer == "quiet") > 100);
     assert!(answered(&nights, |answer| answer.starts_with("steady ")) > 100);
     assert!(answered(&nights, |answer| answer.starts_with("falling ")) > 100);
+}
+
+#[test]
+fn every_state_is_reached() {
+    let (mut states, mut over, mut bad) = (Vec::new(), 0, 0);
+    for seed in 1..=200 {
+        let night = night_script(seed, 500);
+        run(&night[..], std::io::sink(), |line, answer| {
+            let mut words = line.split(|&byte| byte == b' ');
+            let asks = words.any(|word| word == b"state");
+            over += u64::from(asks && answer == "refused 1");
+            bad += u64::from(asks && answer == "bad");
+            if answer.starts_with("state") {
+                states.push(String::from(answer));
+            }
+        })
+        .unwrap();
+    }
+    let count = |fits: &dyn Fn(&str) -> bool| states.iter().filter(|state| fits(state)).count();
+    assert!(count(&|state| state == "state closed") > 200);
+    for name in ["state open ", "state ended ", "state terminated "] {
+        assert!(count(&|state| state.starts_with(name)) > 200, "{name}");
+        // Where there are both buffers and reads.
+        let both = count(&|state| {
+            let mut counts = state.rsplit(' ').take(2);
+            state.starts_with(name) && counts.all(|count| count != "0")
+        });
+        assert!(both > 20, "{name}: {both}");
+    }
+    for fault in FAULTS {
+        let name = format!("state ended {fault} ");
+        assert!(count(&|state| state.starts_with(&name)) > 0, "{name}");
+    }
+    assert!(over > 20 && bad > 20, "{over} {bad}");
 }
 
 #[test]

@@ -202,6 +202,32 @@ fn tick_moves_another(interpreter: &mut Interpreter, words: &[&str], answer: Str
     answer
 }
 
+/// Counts what waits on the next domain's stream too, where a stream's state is asked for.
+fn state_counts_anothers(interpreter: &mut Interpreter, words: &[&str], answer: String) -> String {
+    let other = neighbour(words).filter(|_| answer.starts_with("state open"));
+    let Some(other) = other.map(|other| &interpreter.device.streams[other]) else {
+        return answer;
+    };
+    let stream: usize = words[1].parse().unwrap();
+    let (buffers, reads) = interpreter.device.streams[stream].waiting();
+    let (more, others) = other.waiting();
+    format!("state open {} {}", buffers + more, reads + others)
+}
+
+/// Takes a read of the next domain's stream, where a stream's state is asked for.
+fn state_takes_anothers_read(
+    interpreter: &mut Interpreter,
+    words: &[&str],
+    answer: String,
+) -> String {
+    if words[0] == "state" {
+        if let Some(other) = neighbour(words) {
+            interpreter.device.streams[other].reads.pop();
+        }
+    }
+    answer
+}
+
 #[test]
 fn own_calls_are_the_same_and_the_others_differ() {
     let nights = [0, 1, 2].map(|others| lines(5, 2, others));
@@ -233,6 +259,10 @@ fn alone_or_among_others_the_answers_are_the_same() {
         "quiet",
         "steady",
         "falling",
+        "state closed",
+        "state open",
+        "state ended",
+        "state terminated",
     ] {
         assert!(all.iter().any(|answer| answer.starts_with(kind)), "{kind}");
     }
@@ -252,6 +282,8 @@ fn flaws_are_found() {
         ("counts for another", counts_for_another),
         ("tick clears all", tick_clears_all),
         ("tick moves another", tick_moves_another),
+        ("state counts another's", state_counts_anothers),
+        ("state takes another's read", state_takes_anothers_read),
     ] {
         let found = found(flaw);
         println!("{name}: {found} of 12");

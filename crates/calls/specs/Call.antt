@@ -5,14 +5,14 @@ use mathlib.Core.List.{List, []}
 use lib.ListN.{length, getD}
 use lib.Dec.{eqb}
 use Rattle.wire.specs.Wire.{pick}
-use Rattle.rnic.specs.Rnic.{openedRnic, rnicOpened, rnicClosed, rnicPosted, rnicTaken, rnicReceived, rnicReceivedStore, rnicRegistered, rnicDropped, rnicLive, rnicFree, rnicTicked, rnicReading}
+use Rattle.rnic.specs.Rnic.{openedRnic, rnicOpened, rnicClosed, rnicPosted, rnicTaken, rnicState, rnicReceived, rnicReceivedStore, rnicRegistered, rnicDropped, rnicLive, rnicFree, rnicTicked, rnicReading}
 use Rattle.rnic.specs.Offer.{rnicOffered, rnicOfferAnswer}
 use Rattle.rnic.specs.declared.Rnic.{Rnic}
 use Rattle.rnic.specs.declared.RnicDone.{RnicDone}
 use Rattle.rnic.specs.declared.RnicClosed.{RnicClosed}
 use Rattle.rnic.specs.declared.RnicTaken.{RnicTaken}
 use Rattle.rnic.specs.declared.RnicReceived.{RnicReceived}
-use Rattle.calls.specs.Words.{refusedWords, outcomeWords, closeWords, takeWords, countWords, readingWords, answerWords, offerWords}
+use Rattle.calls.specs.Words.{refusedWords, outcomeWords, closeWords, takeWords, countWords, readingWords, stateWords, answerWords, offerWords}
 
 -- the device after a call, and the answer's words
 pub record Called : Type 0 where
@@ -83,7 +83,8 @@ called b size number a input =
     (pick (eqb number 9) (calledReceive b size (arg a 0) input)
     (pick (eqb number 10) (calledTick b a)
     (pick (eqb number 11) (record { rnic = b; words = readingWords (rnicReading b (arg a 0)) })
-    (notCalled b))))))))))))
+    (pick (eqb number 12) (record { rnic = b; words = stateWords (rnicState b (arg a 0)) })
+    (notCalled b)))))))))))))
 
 -- and the store: receive alone is lent it
 unfoldable pub calledStore : Rnic → ℕ → List ℕ → List ℕ → List ℕ → List ℕ

@@ -10,6 +10,8 @@ use Rattle.rdmap.specs.declared.stream.CloseAnswer.{CloseAnswer}
 use Rattle.rdmap.specs.declared.stream.CloseAnswer.the-variants.{Closed, Refused as NotClosed}
 use Rattle.rdmap.specs.declared.stream.TakeAnswer.{TakeAnswer}
 use Rattle.rdmap.specs.declared.stream.TakeAnswer.the-variants.{Read, Refused as NotTaken}
+use Rattle.rdmap.specs.declared.stream.StateAnswer.{StateAnswer}
+use Rattle.rdmap.specs.declared.stream.StateAnswer.the-variants.{Closed as StateClosed, Open as StateOpen, Ended as StateEnded, Terminated as StateTerminated, Refused as NotStated}
 use Rattle.ddp.specs.declared.refusal.Refusal.{Refusal}
 use Rattle.domain.specs.declared.Event.{Event}
 use Rattle.domain.specs.declared.Event.the-variants.{NoEvent, Sent, SentInvalidating, Terminated}
@@ -58,6 +60,15 @@ readingWords (Reads Quiet) = words 12 0 0 0 0 0
 readingWords (Reads (Steady level)) = words 13 (levelBits level) 0 0 0 0
 readingWords (Reads (Falling level peak)) = words 14 (levelBits level) (levelBits peak) 0 0 0
 readingWords (NotRead number) = refusedWords number
+
+-- 15: a stream's state, 0 closed, 1 open, 2 ended by a refusal of the peer's bytes, 3 ended by the peer's Terminate; then the
+-- buffers and the reads that wait on it; then of 2 the refusal's four numbers
+abbrev pub stateWords : StateAnswer → List ℕ
+stateWords StateClosed = words 15 0 0 0 0 0
+stateWords (StateOpen buffers reads) = words 15 1 buffers reads 0 0
+stateWords (StateEnded r buffers reads) = 15 ∷ 2 ∷ buffers ∷ reads ∷ r .number ∷ r .layer ∷ r .etype ∷ r .code ∷ []
+stateWords (StateTerminated buffers reads) = words 15 3 buffers reads 0 0
+stateWords (NotStated number) = refusedWords number
 
 -- an FPDU is taken: 6 with no event, 7 a Send, 8 a Send that invalidated an STag, 9 a Terminate
 abbrev pub eventWords : ℕ → Event → List ℕ

@@ -17,6 +17,7 @@ use crate::one::call_post;
 use crate::one::call_reading;
 use crate::one::call_receive;
 use crate::one::call_register;
+use crate::one::call_stream_state;
 use crate::one::call_take;
 use crate::one::call_tick;
 use crate::words::words;
@@ -56,6 +57,10 @@ pub fn call(
         10 => call_tick(b, a, answer),
         11 => {
             call_reading(b, a, answer);
+            b
+        }
+        12 => {
+            call_stream_state(b, a, answer);
             b
         }
         _ => {

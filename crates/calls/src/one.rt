@@ -2,7 +2,7 @@
 // answer written as words. A call takes the first of the numbers that it needs, and looks at no other.
 ghost use mathlib.Core.Path.{_≡_};
 ghost use lib.ListN.{length};
-ghost use Rattle.calls.specs.Words.{countWords, readingWords};
+ghost use Rattle.calls.specs.Words.{countWords, readingWords, stateWords};
 ghost use Rattle.calls.specs.Call.{
   arg,
   calledOpen,
@@ -15,12 +15,13 @@ ghost use Rattle.calls.specs.Call.{
   calledReceive,
   calledTick,
 };
-ghost use Rattle.rnic.specs.Rnic.{rnicLive, rnicFree, rnicReading, rnicReceivedStore};
+ghost use Rattle.rnic.specs.Rnic.{rnicLive, rnicFree, rnicReading, rnicState, rnicReceivedStore};
 use crate::words::answer_words;
 use crate::words::close_words;
 use crate::words::count_words;
 use crate::words::outcome_words;
 use crate::words::reading_words;
+use crate::words::state_words;
 use crate::words::take_words;
 use rnic::Rnic;
 
@@ -140,4 +141,11 @@ pub(crate) fn call_reading(b: Rnic, a: &[u64; 9], answer: &mut [u64; 8])
     ensures { λ _. ⌜ now (answer .exit) ≡ readingWords (rnicReading b (arg (now (a .entry)) 0)) ⌝ }
 {
     *answer = reading_words(rnic::reading(b, a[0]));
+}
+
+// The state of a stream.
+pub(crate) fn call_stream_state(b: Rnic, a: &[u64; 9], answer: &mut [u64; 8])
+    ensures { λ _. ⌜ now (answer .exit) ≡ stateWords (rnicState b (arg (now (a .entry)) 0)) ⌝ }
+{
+    *answer = state_words(rnic::stream_state(b, a[0]));
 }

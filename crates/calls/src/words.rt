@@ -9,6 +9,7 @@ ghost use Rattle.calls.specs.Words.{
   takeWords,
   countWords,
   readingWords,
+  stateWords,
   eventWords,
   endedWords,
   answerWords,
@@ -23,6 +24,7 @@ use memory::part::Outcome;
 use meter::gauge::Reading;
 use meter::words::level_bits;
 use rdmap::stream::CloseAnswer;
+use rdmap::stream::StateAnswer;
 use rdmap::stream::TakeAnswer;
 use rnic::Count;
 use rnic::ReadingAnswer;
@@ -99,6 +101,41 @@ pub fn reading_words(answer: ReadingAnswer) -> [u64; 8]
     match answer {
         ReadingAnswer::Reads(reading) => gauge_words(reading),
         ReadingAnswer::Refused(number) => refused_words(number),
+    }
+}
+
+// The state of a stream that a refusal of the peer's bytes ended.
+fn ended_state_words(refusal: Refusal, buffers: u32, reads: u32) -> [u64; 8]
+    ensures { λ r. ⌜ r ≡ stateWords (StateAnswer.Ended refusal buffers reads) ⌝ }
+{
+    [
+        15,
+        2,
+        buffers as u64,
+        reads as u64,
+        refusal.number as u64,
+        refusal.layer as u64,
+        refusal.etype as u64,
+        refusal.code as u64,
+    ]
+}
+
+// What asking for a stream's state answers.
+pub fn state_words(answer: StateAnswer) -> [u64; 8]
+    ensures { λ r. ⌜ r ≡ stateWords answer ⌝ }
+{
+    match answer {
+        StateAnswer::Closed => words(15, 0, 0, 0, 0, 0),
+        StateAnswer::Open { buffers, reads } => words(15, 1, buffers as u64, reads as u64, 0, 0),
+        StateAnswer::Ended {
+            refusal,
+            buffers,
+            reads,
+        } => ended_state_words(refusal, buffers, reads),
+        StateAnswer::Terminated { buffers, reads } => {
+            words(15, 3, buffers as u64, reads as u64, 0, 0)
+        }
+        StateAnswer::Refused(number) => refused_words(number),
     }
 }
 

@@ -1,9 +1,9 @@
-// Calls on a stream: opened, closed, a buffer posted, a read taken.
+// Calls on a stream: opened, closed, a buffer posted, a read taken; and the question for its state.
 ghost use mathlib.Core.Path.{_≡_};
 ghost use Prim.Native.Nat.{_<_};
 ghost use Rattle.rdmap.specs.Stream.{opened, closed, takenFrom};
 ghost use Rattle.domain.specs.Domain.{domainPosted};
-ghost use Rattle.rnic.specs.Rnic.{rnicOpened, rnicClosed, rnicPosted, rnicTaken, domainAt, withDomain};
+ghost use Rattle.rnic.specs.Rnic.{rnicOpened, rnicClosed, rnicPosted, rnicTaken, rnicState, domainAt, withDomain};
 ghost use Rattle.block.specs.Device.{rnicAt};
 ghost use Rattle.block.specs.Exchange.{streamOf, withStreamOf};
 use crate::sharing::domain_shares;
@@ -19,9 +19,11 @@ use block::stream::store_stream;
 use memory::part::Outcome;
 use rdmap::phase::Readiness;
 use rdmap::stream::CloseAnswer;
+use rdmap::stream::StateAnswer;
 use rdmap::stream::TakeAnswer;
 use rdmap::stream::closed_stream;
 use rdmap::stream::opened_stream;
+use rdmap::stream::state_of;
 
 // Opens the stream of a domain's slot, if it is closed.
 fn open_slot(words: &mut [u64; 945], domain: usize, slot: usize, crc: bool) -> Outcome
@@ -151,4 +153,19 @@ pub fn take(words: &mut [u64; 945], stream: u64) -> TakeAnswer
         return take_slot(words, domain, slot);
     }
     TakeAnswer::Refused(1)
+}
+
+// The state of a stream, with what waits on it.
+pub fn stream_state(words: &[u64; 945], stream: u64) -> StateAnswer
+    ensures { λ r. ⌜ r ≡ rnicState (rnicAt (now (words .entry))) stream ⌝ }
+{
+    if stream <= 15 {
+        let domain = (stream / 4) as usize;
+        let slot = (stream % 4) as usize;
+        let phase = load_phase(words, domain, slot);
+        let sends = load_head(words, domain, slot);
+        let reads = load_tally(words, domain, slot);
+        return state_of(phase, sends.count, reads.count);
+    }
+    StateAnswer::Refused(1)
 }

@@ -16,7 +16,7 @@ use Rattle.ddp.specs.declared.segment.SegmentRead.{SegmentRead}
 use Rattle.ddp.specs.declared.segment.SegmentRead.the-variants.{Wait as SegmentWait, Refused as SegmentRefused, Tagged as TaggedSegment, Untagged as UntaggedSegment}
 use Rattle.rdmap.specs.Phase.{phaseOf}
 use Rattle.rdmap.specs.Framing.{noFraming}
-use Rattle.rdmap.specs.Stream.{closedStream, opened, closed, postedOn, takenFrom}
+use Rattle.rdmap.specs.Stream.{closedStream, opened, closed, postedOn, takenFrom, stateIn}
 use Rattle.domain.specs.Parts.{partsReceived, partsReceivedBytes, lifted}
 use Rattle.domain.specs.Sharing.{writes, domainShares, lastly}
 use Rattle.domain.specs.declared.Domain.{Domain}
@@ -28,6 +28,8 @@ use Rattle.domain.specs.declared.Answer.the-variants.{Wait, Taken, Ended
 use Rattle.domain.specs.declared.Received.{Received}
 use Rattle.rdmap.specs.declared.stream.CloseAnswer.the-variants.{Refused as NotClosed}
 use Rattle.rdmap.specs.declared.stream.TakeAnswer.the-variants.{Refused as NotTaken}
+use Rattle.rdmap.specs.declared.stream.StateAnswer.{StateAnswer}
+use Rattle.rdmap.specs.declared.stream.StateAnswer.the-variants.{Refused as NotStated}
 use Rattle.rdmap.specs.declared.stream.Stream.{Stream}
 
 -- past the last stream, of which nothing is asked: as an array's default, its own arrays are empty
@@ -82,6 +84,10 @@ domainTaken d slot =
     pick (leb slot 3)
     (record { answer = takenFrom (streamAt d slot) .answer; domain = withStream d slot (takenFrom (streamAt d slot) .stream) })
     (record { answer = NotTaken 1; domain = d })
+
+-- a question, which changes nothing
+unfoldable pub domainState : Domain → ℕ → StateAnswer
+domainState d slot = pick (leb slot 3) (stateIn (streamAt d slot)) (NotStated 1)
 
 -- ---- windows
 

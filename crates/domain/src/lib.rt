@@ -15,6 +15,7 @@ ghost use Rattle.domain.specs.Domain.{
   domainClosed,
   domainPosted,
   domainTaken,
+  domainState,
   domainRegistered,
   domainDropped,
   domainReceived,
@@ -39,6 +40,7 @@ use meter::Meter;
 use meter::gauge::Reading;
 use meter::new_meter;
 use rdmap::stream::CloseAnswer;
+use rdmap::stream::StateAnswer;
 use rdmap::stream::Stream;
 use rdmap::stream::TakeAnswer;
 use rdmap::stream::closed_stream;
@@ -221,6 +223,17 @@ pub fn take(d: Domain, slot: u64) -> DomainTaken
         answer: TakeAnswer::Refused(1),
         domain: d,
     }
+}
+
+// The state of a stream, with what waits on it.
+pub fn stream_state(d: Domain, slot: u64) -> StateAnswer
+    ensures { λ r. ⌜ r ≡ domainState d slot ⌝ }
+{
+    if slot <= 3 {
+        let s = d.streams[slot as usize];
+        return s.state();
+    }
+    StateAnswer::Refused(1)
 }
 
 // Registers a window.

@@ -42,7 +42,7 @@ use Rattle.rnic.specs.declared.Rnic.{Rnic}
 use Rattle.rnic.specs.Offer.{roomsBytes, heldBytes}
 use Rattle.holding.specs.Offer.{holdsAt, domainReceivesBytes, domainOfferedBytes}
 use Rattle.isolation.specs.Book.{Call, Answer, View, Observation, Opening, ofStream, ownerIn, bookReceive, bookOffer, book, partStart, partEnd}
-use Rattle.isolation.specs.Book.Call.{openStream, closeStream, register, dropWindow, post, receive, offer, takeRead, live, free, tick, readGauge}
+use Rattle.isolation.specs.Book.Call.{openStream, closeStream, register, dropWindow, post, receive, offer, takeRead, live, free, tick, readGauge, askState}
 use Rattle.isolation.specs.Writers.{Writer, bufferAt, Writes, startOf, lenOf, Has, Apart, target, receiver, Fills}
 use Rattle.isolation.specs.Writers.Writer.{window, buffer}
 use Rattle.isolation.proofs.Calls.{World, Step, Opened, view}
@@ -75,6 +75,7 @@ book-apart A v k p (live d) = p
 book-apart A v k p (free d) = p
 book-apart A v k p (tick d) = ticked-apart (v .dom) k p
 book-apart A v k p (readGauge d) = p
+book-apart A v k p (askState n) = p
 
 -- the writers of a domain lie in its part, and apart
 record Placed (v : View) : Type 0 where
@@ -335,6 +336,7 @@ changed-is-filled o mem rooms {I = I} {w = w} {w₁ = w₁} z r c y w₂ m A hA 
     booked (free i) e = quiet (free i) refl refl
     booked (tick i) e = quiet (tick i) (ticked-keeps d .part) refl
     booked (readGauge i) e = quiet (readGauge i) refl refl
+    booked (askState n) e = quiet (askState n) refl refl
 
     stepped : (k : Call) (b : Answer) → Step w₁ k b w₂ → Dec (ownerIn (w₁ .dev) k ≡ A) → Seen k (view A w₂)
     stepped k b s (yes e) = subst (Seen k) (sym (ap (λ (v : Observation Answer). v .after) (own A hA w₁ k b w₂ f e s))) (booked k e)

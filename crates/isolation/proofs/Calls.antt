@@ -18,8 +18,8 @@ use Rattle.holding.specs.declared.OfferAnswer.{OfferAnswer}
 use Rattle.rnic.specs.Rnic.{domainAt, bytesOf}
 use Rattle.rnic.specs.Offer.{roomsBytes, roomOf, rnicOffered, rnicOfferAnswer, rnicOfferedStore, rnicOfferedRooms}
 use Rattle.isolation.specs.Book.{Call, Answer, View, Opening}
-use Rattle.isolation.specs.Book.Call.{openStream, closeStream, register, dropWindow, post, receive, offer, takeRead, live, free, tick, readGauge}
-use Rattle.isolation.specs.Book.Answer.{done, closed, received, offered, taken, counted, gaugeRead}
+use Rattle.isolation.specs.Book.Call.{openStream, closeStream, register, dropWindow, post, receive, offer, takeRead, live, free, tick, readGauge, askState}
+use Rattle.isolation.specs.Book.Answer.{done, closed, received, offered, taken, counted, gaugeRead, stated}
 use Rattle.isolation.specs.Number.{Numbered}
 use Rattle.rnic.specs.declared.Rnic.{Rnic}
 use Rattle.rnic.specs.declared.RnicDone.{RnicDone}
@@ -36,6 +36,7 @@ use Rattle.rnic.proofs.live_count.Reads as live-count-reads
 use Rattle.rnic.proofs.lowest_free.Reads as lowest-free-reads
 use Rattle.rnic.proofs.tick.Reads as tick-reads
 use Rattle.rnic.proofs.reading.Reads as reading-reads
+use Rattle.rnic.proofs.stream_state.Reads as stream-state-reads
 use Rattle.calls.proofs.call.Reads as call-reads
 
 -- the device, the store of which it was opened, and the second slice, of sixteen rooms
@@ -124,6 +125,7 @@ Step w (live d) = PlainStep live-count-reads.Post (w .dev, (d, tt)) counted (λ 
 Step w (free d) = PlainStep lowest-free-reads.Post (w .dev, (d, tt)) counted (λ r. w .dev) w
 Step w (tick d) = PlainStep tick-reads.Post (w .dev, (d, tt)) (λ r. done (r .outcome)) (λ r. r .rnic) w
 Step w (readGauge d) = PlainStep reading-reads.Post (w .dev, (d, tt)) gaugeRead (λ r. w .dev) w
+Step w (askState n) = PlainStep stream-state-reads.Post (w .dev, (n, tt)) stated (λ r. w .dev) w
 
 -- one call, by its number: `call` of the crate `calls`, which is lent a slice whatever the call
 pub record NumberStep (w : World) (c : Numbered) (words : List ℕ) (w₁ : World) : Type 0 where

@@ -1,5 +1,5 @@
--- The twelve worked cases that the paper marks to be proved, a slice of two FPDUs, empty reads, refusal 19, offers and a gauge, as one table:
--- what each gives, what it must give, and one test that antt computes over the whole table.
+-- The twelve worked cases that the paper marks to be proved, a slice of two FPDUs, empty reads, refusal 19, offers, a gauge and
+-- a stream's state, as one table: what each gives, what it must give, and one test that antt computes over the whole table.
 -- Assumes nothing.
 use mathlib.Core.Path.{_≡_, refl}
 use mathlib.Core.Bool.{Bool, true, false}
@@ -24,8 +24,9 @@ use Rattle.ddp.specs.Tagged.{taggedOf}
 use Rattle.ddp.specs.Untagged.{untaggedIn, untaggedOf, nextMsn}
 use Rattle.ddp.specs.Place.{fits, placed}
 use Rattle.rdmap.specs.Message.{sendVerdict, readVerdict, terminateVerdict, messageVerdict, queueOf}
-use Rattle.rdmap.specs.Stream.{opened, closed, postedOn, sentOn, openedStream}
-use Rattle.domain.specs.Domain.{domainOpened, domainClosed, domainPosted, domainRegistered, domainDropped, domainReceived, domainReceivedBytes}
+use Rattle.rdmap.specs.Read.{queuedReads}
+use Rattle.rdmap.specs.Stream.{opened, closed, postedOn, sentOn, openedStream, stateOf}
+use Rattle.domain.specs.Domain.{domainOpened, domainClosed, domainPosted, domainRegistered, domainDropped, domainReceived, domainReceivedBytes, domainState}
 use Rattle.domain.specs.Parts.{partsApplied, placedFrom, appliedBytes, partsReceived, partsReceivedBytes}
 use Rattle.domain.specs.Sharing.{shares, windowShares, windowsShare, buffersShare, streamsShare, domainShares, lastly}
 use Rattle.domain.specs.declared.Answer.{Answer}
@@ -36,11 +37,11 @@ use Rattle.holding.specs.Offer.{domainReceives, domainReceivesBytes, partsOffer
 use Rattle.holding.specs.declared.OfferAnswer.{OfferAnswer}
 use Rattle.holding.specs.declared.OfferAnswer.the-variants.{Kept, Completed, Ended as OfferEnded, Refused as OfferRefused}
 use Rattle.rnic.specs.Offer.{roomsBytes, offeredOwned, offeredOwnedStore, offeredOwnedRooms, rnicOffered, rnicOfferAnswer, rnicOfferedStore, rnicOfferedRooms}
-use Rattle.rnic.specs.Rnic.{openedRnic, rnicOpened, rnicClosed, rnicPosted, rnicRegistered, rnicDropped, receivedOwned, receivedOwnedStore, rnicReceived, rnicReceivedStore, rnicTicked, rnicReading}
+use Rattle.rnic.specs.Rnic.{openedRnic, rnicOpened, rnicClosed, rnicPosted, rnicRegistered, rnicDropped, receivedOwned, receivedOwnedStore, rnicReceived, rnicReceivedStore, rnicTicked, rnicReading, rnicState}
 use Rattle.rnic.specs.declared.Rnic.{Rnic}
 use Rattle.meter.specs.Gauge.{sampledGauge, readingOf}
 use Rattle.meter.specs.Words.{levelBits}
-use Rattle.calls.specs.Words.{readingWords}
+use Rattle.calls.specs.Words.{readingWords, stateWords}
 
 -- an answer in numbers: Wait n; Taken with its total and event; a peer refusal's number, layer, type and code; a local refusal's number
 abbrev code : Answer → List ℕ
@@ -146,6 +147,18 @@ ticked d (suc n) b = rnicTicked (ticked d n b) d .rnic
 -- what its gauge reads as: 12 quiet; 13 steady, 14 falling, with the bits; 0 a refusal
 abbrev reads : Rnic → ℕ → List ℕ
 reads b d = take 3 (readingWords (rnicReading b d))
+
+-- a Terminate's FPDU, of layer 1, type 1, code 1, MSN 1
+abbrev terminate : List ℕ
+terminate = be16 22 ++ (0x41 ∷ 0x47 ∷ (be32 0 ++ (be32 2 ++ (be32 1 ++ (be32 0 ++ (0x11 ∷ 0x01 ∷ 0 ∷ 0 ∷ 0 ∷ 0 ∷ 0 ∷ 0 ∷ []))))))
+
+-- stream 4 after some bytes, where a buffer waits on it
+abbrev after : List ℕ → Rnic
+after input = rnicReceived waits 4096 4 input .rnic
+
+-- what asking for a stream's state answers, in words
+abbrev states : Rnic → ℕ → List ℕ
+states b n = stateWords (rnicState b n)
 
 record Check : Type 0 where
   got : List ℕ
@@ -261,6 +274,15 @@ log =
     -- no domain's number: 1
     ∷ gives (told (rnicTicked filled 4 .outcome)) (1 ∷ [])
     ∷ gives (reads filled 4) (0 ∷ 1 ∷ 0 ∷ [])
+    -- a stream's state: closed; open, with a buffer that waits, and with a read too; ended by 27; ended by a Terminate
+    ∷ gives (states waits 6) (15 ∷ 0 ∷ 0 ∷ 0 ∷ 0 ∷ 0 ∷ 0 ∷ 0 ∷ [])
+    ∷ gives (states waits 4) (15 ∷ 1 ∷ 1 ∷ 0 ∷ 0 ∷ 0 ∷ 0 ∷ 0 ∷ [])
+    ∷ gives (states (after (request 0 0)) 4) (15 ∷ 1 ∷ 1 ∷ 1 ∷ 0 ∷ 0 ∷ 0 ∷ 0 ∷ [])
+    ∷ gives (states (after (write 0x1105 4097 beef)) 4) (15 ∷ 2 ∷ 1 ∷ 0 ∷ 27 ∷ 1 ∷ 1 ∷ 0x01 ∷ [])
+    ∷ gives (states (after terminate) 4) (15 ∷ 3 ∷ 1 ∷ 0 ∷ 0 ∷ 0 ∷ 0 ∷ 0 ∷ [])
+    -- another stream of the domain is left; no stream's number: 1
+    ∷ gives (states (after terminate) 5) (15 ∷ 1 ∷ 0 ∷ 0 ∷ 0 ∷ 0 ∷ 0 ∷ 0 ∷ [])
+    ∷ gives (states waits 16) (0 ∷ 1 ∷ 0 ∷ 0 ∷ 0 ∷ 0 ∷ 0 ∷ 0 ∷ [])
     -- MSN 4,294,967,295 is followed by 0
     ∷ gives (nextMsn 4294967295 ∷ []) (0 ∷ [])
     -- Request, C set, data AB, whole
@@ -274,7 +296,7 @@ all (x ∷ xs) = both (same (x .got) (x .want)) (all xs)
 
 -- the test passes over the whole table
 log-holds : all log ≡ true
-unfolding fpduRead fpduReadOf startupOf inPart inRange windowFits registeredIn registered droppedIn dropped named foundIn wraps spanned posted poppedOf taggedFields untaggedFields taggedRead untaggedRead headerRead segmentRead taggedOf untaggedIn untaggedOf fits placed sendVerdict readVerdict terminateVerdict messageVerdict queueOf opened closed postedOn shares windowShares windowsShare buffersShare streamsShare domainShares lastly domainOpened domainClosed domainPosted domainRegistered domainDropped partsApplied placedFrom appliedBytes partsReceived partsReceivedBytes domainReceived domainReceivedBytes openedRnic rnicOpened rnicClosed rnicPosted rnicRegistered rnicDropped receivedOwned receivedOwnedStore rnicReceived rnicReceivedStore domainReceives domainReceivesBytes neededOf isShort copied roomAfter partsOffered partsOfferedBytes domainOffered domainOfferedBytes offeredOwned offeredOwnedStore offeredOwnedRooms rnicOffered rnicOfferedStore rnicOfferedRooms rnicTicked rnicReading sampledGauge readingOf levelBits add sub div lt ne ofInt toBits
+unfolding fpduRead fpduReadOf startupOf inPart inRange windowFits registeredIn registered droppedIn dropped named foundIn wraps spanned posted poppedOf taggedFields untaggedFields taggedRead untaggedRead headerRead segmentRead taggedOf untaggedIn untaggedOf fits placed sendVerdict readVerdict terminateVerdict messageVerdict queueOf queuedReads opened closed postedOn shares windowShares windowsShare buffersShare streamsShare domainShares lastly domainOpened domainClosed domainPosted domainRegistered domainDropped partsApplied placedFrom appliedBytes partsReceived partsReceivedBytes domainReceived domainReceivedBytes openedRnic rnicOpened rnicClosed rnicPosted rnicRegistered rnicDropped receivedOwned receivedOwnedStore rnicReceived rnicReceivedStore domainReceives domainReceivesBytes neededOf isShort copied roomAfter partsOffered partsOfferedBytes domainOffered domainOfferedBytes offeredOwned offeredOwnedStore offeredOwnedRooms rnicOffered rnicOfferedStore rnicOfferedRooms rnicTicked rnicReading stateOf domainState rnicState sampledGauge readingOf levelBits add sub div lt ne ofInt toBits
 log-holds = refl
 
 -- so each case gives what it must

@@ -22,7 +22,7 @@ use Rattle.domain.specs.declared.Received.{Received}
 use Rattle.holding.specs.Offer.{holdsAt, domainReceives, partsOffered, domainOffered}
 use Rattle.rnic.specs.Offer.{roomsBytes}
 use Rattle.isolation.specs.Book.{Call, Answer, View, Observation, bookReceive, bookOffer, book}
-use Rattle.isolation.specs.Book.Call.{openStream, closeStream, register, dropWindow, post, receive, offer, takeRead, live, free, tick, readGauge}
+use Rattle.isolation.specs.Book.Call.{openStream, closeStream, register, dropWindow, post, receive, offer, takeRead, live, free, tick, readGauge, askState}
 use Rattle.isolation.proofs.Kept.{picked, lastly-holds}
 
 abbrev Metered : Domain → Type 0
@@ -92,3 +92,4 @@ book-metered A v w (live d) = w
 book-metered A v w (free d) = w
 book-metered A v w (tick d) = tick-well-formed (v .dom .meter) w
 book-metered A v w (readGauge d) = w
+book-metered A v w (askState n) = w

@@ -9,11 +9,11 @@ use lib.Dec.{leb, eqb}
 use Rattle.wire.specs.Wire.{pick}
 use Rattle.memory.specs.Window.{liveCount, lowestFree}
 use Rattle.memory.specs.declared.part.Outcome.the-variants.{Done}
-use Rattle.domain.specs.Domain.{domainOpened, domainClosed, domainPosted, domainTaken, domainRegistered, domainDropped, domainTicked, domainReading}
+use Rattle.domain.specs.Domain.{domainOpened, domainClosed, domainPosted, domainTaken, domainRegistered, domainDropped, domainTicked, domainReading, domainState}
 use Rattle.domain.specs.declared.Answer.the-variants.{Refused}
 use Rattle.memory.specs.Part.{partFits}
 use Rattle.holding.specs.Offer.{domainReceives, domainReceivesBytes, streamRoom, domainOffered, domainOfferedBytes}
-use Rattle.rnic.specs.Rnic.{domainAt, withDomain, bytesOf, withBytes, rnicOpened, rnicClosed, rnicPosted, rnicTaken, rnicRegistered, rnicDropped, rnicReceived, rnicReceivedStore, receivedOwned, receivedOwnedStore, rnicLive, rnicFree, rnicTicked, rnicReading}
+use Rattle.rnic.specs.Rnic.{domainAt, withDomain, bytesOf, withBytes, rnicOpened, rnicClosed, rnicPosted, rnicTaken, rnicRegistered, rnicDropped, rnicReceived, rnicReceivedStore, receivedOwned, receivedOwnedStore, rnicLive, rnicFree, rnicTicked, rnicReading, rnicState}
 use Rattle.rnic.specs.Offer.{roomOf, withRoom, streamNumbered, heldBytes, offerAsked, offeredOwned, offeredOwnedStore, offeredOwnedRooms, rnicOffered, rnicOfferedStore, rnicOfferedRooms}
 use Rattle.rnic.specs.declared.Rnic.{Rnic}
 use Rattle.rnic.specs.declared.Count.the-variants.{Counted}
@@ -93,6 +93,10 @@ module _ (b : Rnic) (n : ℕ) where
   pub reading-in : leb n 3 ≡ true → rnicReading b n ≡ Reads (domainReading (domainAt b n))
   unfolding rnicReading
   reading-in e = simp e
+
+  pub state-in : leb n 15 ≡ true → rnicState b n ≡ domainState (domainAt b (n / 4)) (n % 4)
+  unfolding rnicState
+  state-in e = simp e
 
   module _ (input : List ℕ) where
     pub received-in :

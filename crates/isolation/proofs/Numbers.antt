@@ -11,7 +11,7 @@ use borrow.Author.Tests.{eqb-true, ne-eqb}
 use denote.Ref.{now}
 use contract.Lifetimes.{Lfts}
 use Rattle.wire.specs.Wire.{pick}
-use Rattle.rnic.specs.Rnic.{rnicOpened, rnicClosed, rnicPosted, rnicTaken, rnicRegistered, rnicDropped, rnicReceived, rnicReceivedStore, rnicLive, rnicFree, rnicTicked, rnicReading}
+use Rattle.rnic.specs.Rnic.{rnicOpened, rnicClosed, rnicPosted, rnicTaken, rnicRegistered, rnicDropped, rnicReceived, rnicReceivedStore, rnicLive, rnicFree, rnicTicked, rnicReading, rnicState}
 use Rattle.rnic.specs.declared.Rnic.{Rnic}
 use Rattle.rnic.specs.Offer.{rnicOfferAnswer}
 use Rattle.calls.specs.Words.{offerWords}
@@ -117,7 +117,8 @@ module _ (w : World) (c : Numbered) (words : List ℕ) (w₁ : World) (s : Numbe
       (λ e. either (eqb (c .number) 9) _ _ _ _ receiving
       (λ n9. either (eqb (c .number) 10) _ _ _ _ (λ e. plain (rnicTicked b (n 0)) refl n9)
       (λ e. either (eqb (c .number) 11) _ _ _ _ (λ e. plain (rnicReading b (n 0)) refl n9)
-      (λ e. plain (rnicLive b 4) refl n9))))))))))))
+      (λ e. either (eqb (c .number) 12) _ _ _ _ (λ e. plain (rnicState b (n 0)) refl n9)
+      (λ e. plain (rnicLive b 4) refl n9)))))))))))))
 
   pub number-step : (a : Answer) × Step w (callOf c) a w₁ × (words ≡ replyWords a)
   number-step = matched number-rnic number-words

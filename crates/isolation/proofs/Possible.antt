@@ -7,14 +7,14 @@ use native.Mathlib.Decide.{ℕ-discrete as decEq}
 use lib.ListN.{length, replicate, length-replicate}
 use denote.Ref.{RefT}
 use contract.Lifetimes.{Lfts}
-use Rattle.rnic.specs.Rnic.{openedRnic, rnicOpened, rnicClosed, rnicPosted, rnicTaken, rnicRegistered, rnicDropped, rnicReceived, rnicReceivedStore, rnicLive, rnicFree, rnicTicked, rnicReading}
+use Rattle.rnic.specs.Rnic.{openedRnic, rnicOpened, rnicClosed, rnicPosted, rnicTaken, rnicRegistered, rnicDropped, rnicReceived, rnicReceivedStore, rnicLive, rnicFree, rnicTicked, rnicReading, rnicState}
 use Rattle.rnic.specs.Offer.{roomsBytes, rnicOfferedStore, rnicOfferedRooms}
 use Rattle.rnic.specs.declared.Rnic.{Rnic}
 use Rattle.holding.specs.declared.OfferAnswer.{OfferAnswer}
 use Rattle.calls.specs.Words.{offerWords}
 use Rattle.calls.specs.Call.{called, calledStore}
 use Rattle.isolation.specs.Book.{Call, Answer, Opening}
-use Rattle.isolation.specs.Book.Call.{openStream, closeStream, register, dropWindow, post, receive, offer, takeRead, live, free, tick, readGauge}
+use Rattle.isolation.specs.Book.Call.{openStream, closeStream, register, dropWindow, post, receive, offer, takeRead, live, free, tick, readGauge, askState}
 use Rattle.isolation.specs.Book.Answer.{offered}
 use Rattle.isolation.specs.Number.{Request}
 use Rattle.isolation.specs.Number.Request.{byNumber, offering}
@@ -87,6 +87,7 @@ by-function w f (live d) = record { reply = _; after = _; made = returned (rnicL
 by-function w f (free d) = record { reply = _; after = _; made = returned (rnicFree (w .dev) d) refl }
 by-function w f (tick d) = record { reply = _; after = _; made = returned (rnicTicked (w .dev) d) refl }
 by-function w f (readGauge d) = record { reply = _; after = _; made = returned (rnicReading (w .dev) d) refl }
+by-function w f (askState n) = record { reply = _; after = _; made = returned (rnicState (w .dev) n) refl }
 by-function w f (receive n input k) =
     let x = slice (w .mem) (w .dev .len) (f .long) k in
     record {

@@ -81,7 +81,7 @@ use Rattle.holding.specs.Offer.{isOpen, holdsAt, domainReceives, domainReceives
 use Rattle.rnic.specs.Rnic.{domainAt, bytesOf}
 use Rattle.rnic.specs.Offer.{roomsBytes}
 use Rattle.isolation.specs.Book.{Call, Answer, View, Observation, Opening, bookReceive, bookOffer, book, partStart, partEnd}
-use Rattle.isolation.specs.Book.Call.{openStream, closeStream, register, dropWindow, post, receive, offer, takeRead, live, free, tick, readGauge}
+use Rattle.isolation.specs.Book.Call.{openStream, closeStream, register, dropWindow, post, receive, offer, takeRead, live, free, tick, readGauge, askState}
 use Rattle.isolation.proofs.Calls.{World, Opened, view}
 use Rattle.isolation.proofs.Runs.{Interface, Run}
 use Rattle.holding.proofs.Held.{offered-by, offered-bytes}
@@ -320,6 +320,7 @@ book-sound A v k (live d) = k
 book-sound A v k (free d) = k
 book-sound A v k (tick d) = ticked-sound (v .dom) k
 book-sound A v k (readGauge d) = k
+book-sound A v k (askState n) = k
 
 -- what a domain has in every world that a run from an opening reaches
 record Reached (v : View) : Type 0 where

@@ -23,7 +23,7 @@ use Rattle.cuts.specs.Received.{Short}
 use Rattle.holding.specs.Offer.{isOpen, heldOf, partsOffered, domainOffered, domainOfferedHeld}
 use Rattle.rnic.specs.Offer.{roomsBytes}
 use Rattle.isolation.specs.Book.{Call, Answer, View, Observation, heldBy, bookReceive, bookOffer, book}
-use Rattle.isolation.specs.Book.Call.{openStream, closeStream, register, dropWindow, post, receive, offer, takeRead, live, free, tick, readGauge}
+use Rattle.isolation.specs.Book.Call.{openStream, closeStream, register, dropWindow, post, receive, offer, takeRead, live, free, tick, readGauge, askState}
 use Rattle.holding.proofs.Held.{Waited, offered-by, judged-empties}
 use Rattle.isolation.proofs.Kept.{picked, Settles, Steady, opened-keeps, closed-keeps, posted-keeps, taken-keeps, registered-keeps, dropped-keeps, ticked-keeps, received-keeps, offered-others}
 use Rattle.isolation.proofs.Kept.Settles.{empties, stays}
@@ -117,3 +117,4 @@ book-short A v four k (live d) = k
 book-short A v four k (free d) = k
 book-short A v four k (tick d) = steady-short (v .dom) _ (v .held) k (ticked-keeps (v .dom))
 book-short A v four k (readGauge d) = k
+book-short A v four k (askState n) = k

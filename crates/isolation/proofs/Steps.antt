@@ -26,11 +26,11 @@ use Rattle.rnic.specs.Rnic.{domainAt, withDomain, bytesOf, withBytes, rnicRecei
 use Rattle.rnic.specs.Offer.{roomsBytes, roomOf, heldBytes, offerAsked, rnicOffered, rnicOfferAnswer, rnicOfferedStore, rnicOfferedRooms}
 use Rattle.rnic.specs.declared.Rnic.{Rnic}
 use Rattle.isolation.specs.Book.{Call, Answer, Observation, ownerIn, heldBy, entered, bookReceive, bookOffer, book}
-use Rattle.isolation.specs.Book.Call.{openStream, closeStream, register, dropWindow, post, receive, offer, takeRead, live, free, tick, readGauge}
+use Rattle.isolation.specs.Book.Call.{openStream, closeStream, register, dropWindow, post, receive, offer, takeRead, live, free, tick, readGauge, askState}
 use Rattle.isolation.specs.Book.Answer.{received, offered}
 use Rattle.isolation.proofs.Calls.{World, PlainStep, ReceiveStep, OfferStep, Step, heldIn, view}
 use Rattle.isolation.proofs.Kept.{Steady, settles-less, opened-keeps, closed-keeps, posted-keeps, taken-keeps, registered-keeps, dropped-keeps, ticked-keeps, received-keeps, received-many}
-use Rattle.isolation.proofs.Lifted.{opened-in, opened-out, closed-in, closed-out, posted-in, posted-out, taken-in, taken-out, registered-in, registered-out, dropped-in, dropped-out, live-in, free-in, ticked-in, ticked-out, reading-in, received-in, received-other, received-out, store-in, store-other, store-out, offered-in, offered-other, offered-out, rooms-in, rooms-other, rooms-out, offered-store-in, offered-store-other, offered-store-out}
+use Rattle.isolation.proofs.Lifted.{opened-in, opened-out, closed-in, closed-out, posted-in, posted-out, taken-in, taken-out, registered-in, registered-out, dropped-in, dropped-out, live-in, free-in, ticked-in, ticked-out, reading-in, state-in, received-in, received-other, received-out, store-in, store-other, store-out, offered-in, offered-other, offered-out, rooms-in, rooms-other, rooms-out, offered-store-in, offered-store-other, offered-store-out}
 use Rattle.isolation.proofs.Offers.{held-is, roomsThen, offer-frame}
 use Rattle.isolation.proofs.WellFormed.{Fit, Frame, putView, part-fits, world-path, same-bytes, memory-left, putView-same, putView-own, putView-other, putView-fit}
 
@@ -299,6 +299,7 @@ module _ (w : World) (a : Answer) (w₁ : World) where
       (λ e h. entry-set s _ (s .contract ∙ ticked-in (w .dev) d e) d _ refl (ticked-keeps (domainAt (w .dev) d)))
       (λ e. unchanged s _ (s .contract) (ticked-out (w .dev) d e))
   owned (readGauge d) f s = of-domain d (readGauge d) (λ e h. nothing-set d w _ a w₁ (s .answered ∙ ap Answer.gaugeRead (s .contract ∙ reading-in (w .dev) d e)) (s .world)) (λ e. s .world)
+  owned (askState n) f s = of-stream n (askState n) (λ e h. nothing-set (n / 4) w _ a w₁ (s .answered ∙ ap Answer.stated (s .contract ∙ state-in (w .dev) n e)) (s .world)) (λ e. s .world)
 
   -- every call keeps a world well-formed
   pub step-fit : (c : Call) → Fit w → Step w c a w₁ → Fit w₁

@@ -9,6 +9,7 @@ use native.Mathlib.Omega.{arith}
 use Rattle.memory.specs.declared.part.Outcome.the-variants.{Done, Refused as NotDone}
 use Rattle.rdmap.specs.declared.stream.CloseAnswer.the-variants.{Closed, Refused as NotClosed}
 use Rattle.rdmap.specs.declared.stream.TakeAnswer.the-variants.{Read, Refused as NotTaken}
+use Rattle.rdmap.specs.declared.stream.StateAnswer.the-variants.{Closed as StateClosed, Open as StateOpen, Ended as StateEnded, Terminated as StateTerminated, Refused as NotStated}
 use Rattle.domain.specs.declared.Event.the-variants.{NoEvent, Sent, SentInvalidating, Terminated}
 use Rattle.domain.specs.declared.Answer.the-variants.{Wait, Taken, Ended, Refused}
 use Rattle.holding.specs.declared.OfferAnswer.the-variants.{Kept, Completed, Ended as OfferEnded, Refused as NotOffered}
@@ -17,7 +18,7 @@ use Rattle.rnic.specs.declared.ReadingAnswer.the-variants.{Reads, Refused as No
 use Rattle.meter.specs.declared.gauge.Reading.the-variants.{Quiet, Steady, Falling}
 use Rattle.cuts.specs.Received.{Report}
 use Rattle.isolation.specs.Book.{Call, Answer, View, Observation, Opening, book, bookTrace, bookView}
-use Rattle.isolation.specs.Book.Answer.{done, closed, received, offered, taken, counted, gaugeRead}
+use Rattle.isolation.specs.Book.Answer.{done, closed, received, offered, taken, counted, gaugeRead, stated}
 use Rattle.isolation.specs.Number.{replyWords}
 use Rattle.isolation.specs.Uncut.{reportsOf, reportsInWords, eventsIn, bookEvents, hasEnd, uncut, HoldsPart, Cut, SameFor, Over}
 use Rattle.isolation.proofs.Calls.{World, view}
@@ -174,6 +175,11 @@ words-exact (gaugeRead (Reads Quiet)) = refl
 words-exact (gaugeRead (Reads (Steady level))) = refl
 words-exact (gaugeRead (Reads (Falling level peak))) = refl
 words-exact (gaugeRead (NotRead k)) = refl
+words-exact (stated StateClosed) = refl
+words-exact (stated (StateOpen buffers reads)) = refl
+words-exact (stated (StateEnded r buffers reads)) = refl
+words-exact (stated (StateTerminated buffers reads)) = refl
+words-exact (stated (NotStated k)) = refl
 
 abbrev pub word-reports : Reporting numbers
 word-reports = record { reports = reportsInWords; exact = words-exact }

@@ -12,7 +12,8 @@ use Rattle.memory.specs.declared.part.Outcome.{Outcome}
 use Rattle.memory.specs.declared.part.Outcome.the-variants.{Done}
 use Rattle.rdmap.specs.declared.stream.CloseAnswer.{CloseAnswer}
 use Rattle.rdmap.specs.declared.stream.TakeAnswer.{TakeAnswer}
-use Rattle.domain.specs.Domain.{newDomain, domainOpened, domainClosed, domainPosted, domainTaken, domainRegistered, domainDropped, domainTicked, domainReading, streamAt}
+use Rattle.rdmap.specs.declared.stream.StateAnswer.{StateAnswer}
+use Rattle.domain.specs.Domain.{newDomain, domainOpened, domainClosed, domainPosted, domainTaken, domainRegistered, domainDropped, domainTicked, domainReading, domainState, streamAt}
 use Rattle.domain.specs.declared.Answer.{Answer as ReceiveAnswer}
 use Rattle.domain.specs.declared.Answer.the-variants.{Refused}
 use Rattle.domain.specs.declared.Domain.{Domain}
@@ -42,6 +43,7 @@ pub data Call : Type 0 where
   free : (d : ℕ) → Call
   tick : (d : ℕ) → Call
   readGauge : (d : ℕ) → Call
+  askState : (n : ℕ) → Call
 
 pub data Answer : Type 0 where
   done : Outcome → Answer
@@ -51,6 +53,7 @@ pub data Answer : Type 0 where
   taken : TakeAnswer → Answer
   counted : Count → Answer
   gaugeRead : ReadingAnswer → Answer
+  stated : StateAnswer → Answer
 
 -- ---- whom a call is for, made on a device b; 4 is nobody. So far no call's owner turns on the device
 
@@ -79,6 +82,8 @@ ownerIn b (free d) = ofDomain d
 -- "A tick names one domain and is that domain's call, as is asking for its reading"
 ownerIn b (tick d) = ofDomain d
 ownerIn b (readGauge d) = ofDomain d
+-- asking for a stream's state is a call of the stream's domain
+ownerIn b (askState n) = ofStream n
 
 -- ---- what A has and observes
 
@@ -146,6 +151,7 @@ book A v (live d) = record { answer = counted (Counted (liveCount (v .dom .windo
 book A v (free d) = record { answer = counted (Counted (lowestFree (v .dom .windows))); after = v }
 book A v (tick d) = entered v (done Done) (domainTicked (v .dom))
 book A v (readGauge d) = record { answer = gaugeRead (Reads (domainReading (v .dom))); after = v }
+book A v (askState n) = record { answer = stated (domainState (v .dom) (n % 4)); after = v }
 
 -- A's observations of a list of its calls, one after the other; f is the form in which answers are given
 unfoldable pub bookTrace : {R : Type 0} → (Answer → R) → ℕ → View → List Call → List (Observation R)

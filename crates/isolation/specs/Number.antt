@@ -4,11 +4,11 @@ use Prim.Native.Nat.{ℕ, _≤_}
 use mathlib.Core.List.{List}
 use lib.Dec.{eqb}
 use Rattle.wire.specs.Wire.{pick}
-use Rattle.calls.specs.Words.{outcomeWords, closeWords, takeWords, countWords, readingWords, answerWords, offerWords}
+use Rattle.calls.specs.Words.{outcomeWords, closeWords, takeWords, countWords, readingWords, stateWords, answerWords, offerWords}
 use Rattle.calls.specs.Call.{arg, crcOn}
 use Rattle.isolation.specs.Book.{Call, Answer}
-use Rattle.isolation.specs.Book.Call.{openStream, closeStream, register, dropWindow, post, receive, offer, takeRead, live, free, tick, readGauge}
-use Rattle.isolation.specs.Book.Answer.{done, closed, received, offered, taken, counted, gaugeRead}
+use Rattle.isolation.specs.Book.Call.{openStream, closeStream, register, dropWindow, post, receive, offer, takeRead, live, free, tick, readGauge, askState}
+use Rattle.isolation.specs.Book.Answer.{done, closed, received, offered, taken, counted, gaugeRead, stated}
 
 -- a call's number, its nine numbers, its bytes, and the length of the slice lent.
 -- Number 0, `open`, makes another device and so starts another run: a run is what lies between two openings
@@ -35,7 +35,8 @@ callOf c =
     (pick (eqb (c .number) 9) (receive (n 0) (c .input) (c .size))
     (pick (eqb (c .number) 10) (tick (n 0))
     (pick (eqb (c .number) 11) (readGauge (n 0))
-    (live 4)))))))))))
+    (pick (eqb (c .number) 12) (askState (n 0))
+    (live 4))))))))))))
 
 -- a call by its number; or an offer on a stream, with its bytes and the lengths of the slices lent as the store and as the second
 pub data Request : Type 0 where
@@ -55,3 +56,4 @@ replyWords (offered o) = offerWords o
 replyWords (taken o) = takeWords o
 replyWords (counted o) = countWords o
 replyWords (gaugeRead o) = readingWords o
+replyWords (stated o) = stateWords o

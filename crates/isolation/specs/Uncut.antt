@@ -18,7 +18,7 @@ use Rattle.holding.specs.declared.OfferAnswer.the-variants.{Refused as NotOffer
 use Rattle.rnic.specs.Offer.{roomsBytes}
 use Rattle.isolation.specs.Book.{Call, Answer, View, Observation, book, bookTrace, bookView}
 use Rattle.isolation.specs.Book.Call.{offer}
-use Rattle.isolation.specs.Book.Answer.{done, closed, received, offered, taken, counted, gaugeRead}
+use Rattle.isolation.specs.Book.Answer.{done, closed, received, offered, taken, counted, gaugeRead, stated}
 
 -- ---- the events
 
@@ -34,6 +34,7 @@ reportsOf (offered a) = eventsOf (answerOf a)
 reportsOf (taken a) = []
 reportsOf (counted n) = []
 reportsOf (gaugeRead a) = []
+reportsOf (stated a) = []
 
 -- the same, of an answer in words, by the kinds of specs/Words.antt of the crate `calls`
 unfoldable pub reportsInWords : List ℕ → List Report
@@ -83,6 +84,7 @@ restOf (received a) piece = []
 restOf (taken a) piece = []
 restOf (counted n) piece = []
 restOf (gaugeRead a) piece = []
+restOf (stated a) piece = []
 
 -- what is left of the bytes after a call that offered the first c of them
 abbrev pub leftAfter : ℕ → View → ℕ → List ℕ → ℕ → List ℕ

@@ -19,7 +19,7 @@ use Rattle.rnic.specs.Rnic.{domainAt}
 use Rattle.rnic.specs.Offer.{heldBytes}
 use Rattle.rnic.specs.declared.Rnic.{Rnic}
 use Rattle.isolation.specs.Book.{Call, ofStream}
-use Rattle.isolation.specs.Book.Call.{openStream, closeStream, register, dropWindow, post, receive, offer, takeRead, live, free, tick, readGauge}
+use Rattle.isolation.specs.Book.Call.{openStream, closeStream, register, dropWindow, post, receive, offer, takeRead, live, free, tick, readGauge, askState}
 
 -- the window of a slot, or the buffer that waits as the k-th on the stream of a slot
 pub data Writer : Type 0 where
@@ -84,3 +84,4 @@ Fills b rooms (live d) A a = ⊥
 Fills b rooms (free d) A a = ⊥
 Fills b rooms (tick d) A a = ⊥
 Fills b rooms (readGauge d) A a = ⊥
+Fills b rooms (askState n) A a = ⊥

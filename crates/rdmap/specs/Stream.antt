@@ -25,6 +25,8 @@ use Rattle.rdmap.specs.declared.stream.CloseAnswer.the-variants.{Closed 
 use Rattle.rdmap.specs.declared.stream.StreamClosed.{StreamClosed}
 use Rattle.rdmap.specs.declared.stream.TakeAnswer.the-variants.{Read, Refused as NotTaken}
 use Rattle.rdmap.specs.declared.stream.StreamTaken.{StreamTaken}
+use Rattle.rdmap.specs.declared.stream.StateAnswer.{StateAnswer}
+use Rattle.rdmap.specs.declared.stream.StateAnswer.the-variants.{Closed, Open, Ended, Terminated}
 
 -- a closed stream is all zeros
 abbrev pub closedStream : Stream
@@ -86,6 +88,20 @@ takenWhen s (NotReady k) = record { answer = NotTaken k; stream = s }
 
 unfoldable pub takenFrom : Stream → StreamTaken
 takenFrom s = takenWhen s (readiness (s .phase))
+
+-- ---- a question, which changes nothing
+
+-- the state of a stream in a phase, with what waits on it: buffers that are not finished, the one in fill included, and reads that
+-- are not taken, as close counts them. Nothing waits on a closed stream
+unfoldable pub stateOf : Phase → ℕ → ℕ → StateAnswer
+stateOf p buffers reads =
+    pick (eqb (p .state) 0) Closed
+    (pick (eqb (p .state) 1) (Open buffers reads)
+    (pick (eqb (p .state) 2) (Ended (p .refusal) buffers reads)
+    (Terminated buffers reads)))
+
+abbrev pub stateIn : Stream → StateAnswer
+stateIn s = stateOf (s .phase) (s .sends .buffers .count) (s .reads .count)
 
 -- ---- what a segment that was judged makes of it
 

@@ -17,6 +17,8 @@ ghost use Rattle.rdmap.specs.Stream.{
   sendingOn,
   sentOn,
   queuedOn,
+  stateOf,
+  stateIn,
 };
 ghost use Rattle.rdmap.specs.Message.{queueOf};
 use crate::framing::Framing;
@@ -76,6 +78,27 @@ pub struct StreamTaken {
     pub stream: Stream,
 }
 
+// What asking for a stream's state answers: closed; open; ended by a refusal of the peer's bytes; ended by
+// the peer's Terminate. One that is not closed comes with how many buffers are not finished and how many
+// reads not taken.
+pub enum StateAnswer {
+    Closed,
+    Open {
+        buffers: u32,
+        reads: u32,
+    },
+    Ended {
+        refusal: Refusal,
+        buffers: u32,
+        reads: u32,
+    },
+    Terminated {
+        buffers: u32,
+        reads: u32,
+    },
+    Refused(u8),
+}
+
 // A closed stream.
 pub fn closed_stream() -> Stream
     ensures { λ r. ⌜ r ≡ closedStream ⌝ }
@@ -99,6 +122,24 @@ pub fn opened_stream(crc: bool) -> Stream
         sends: empty_sends(1),
         reads: empty_reads(1),
         terminates: empty_terminates(1),
+    }
+}
+
+// The state of a stream in this phase, on which so many buffers and reads wait.
+pub fn state_of(phase: Phase, buffers: u32, reads: u32) -> StateAnswer
+    ensures { λ r. ⌜ r ≡ stateOf phase buffers reads ⌝ }
+{
+    let state = phase.state;
+    let refusal = phase.refusal;
+    match state {
+        0 => StateAnswer::Closed,
+        1 => StateAnswer::Open { buffers, reads },
+        2 => StateAnswer::Ended {
+            refusal,
+            buffers,
+            reads,
+        },
+        _ => StateAnswer::Terminated { buffers, reads },
     }
 }
 
@@ -220,6 +261,16 @@ impl Stream {
             answer: TakeAnswer::Read(first),
             stream: self.with_reads(reads.popped()),
         }
+    }
+
+    // The stream's state, with what waits on it.
+    pub fn state(self) -> StateAnswer
+        ensures { λ r. ⌜ r ≡ stateIn self ⌝ }
+    {
+        let sends = self.sends;
+        let buffers = sends.buffers;
+        let reads = self.reads;
+        state_of(self.phase, buffers.count, reads.count)
     }
 
     // What the queue qn expects.

@@ -1,8 +1,9 @@
 // The script's bytes, read in chunks and parted into lines.
+use super::output::FAILED;
 use super::output::flush;
-use super::run::Run;
 use super::run::first_state;
-use super::run::run_line;
+use super::why::Told;
+use super::why::run_told;
 use holding::gather::ROOMS;
 use libc::STDERR_FILENO;
 use libc::STDIN_FILENO;
@@ -18,10 +19,14 @@ struct Chunk {
     count: usize,
 }
 
-// The LENGTH of the last `open` of the lines so far, and how many bytes of the next line are in.
+// The LENGTH of the last `open` of the lines so far, how many lines these are, and to how many of them a
+// reason was given; how many bytes of the next line are in; and whether an answer could not be written.
 struct Reached {
     kept: u64,
+    lines: u64,
+    reasons: u64,
     count: usize,
+    failed: bool,
 }
 
 // Whether a line of `count` bytes and some more fits into `size` bytes.
@@ -62,9 +67,11 @@ fn take_chunk(
     text: &mut [u8],
     out: &mut [u8],
 ) -> Reached {
-    let mut run = Run {
+    let mut told = Told {
         kept: start.kept,
         gathered: 0,
+        lines: start.lines,
+        reasons: start.reasons,
     };
     let mut count = start.count;
     let mut i = 0;
@@ -75,8 +82,8 @@ fn take_chunk(
             break;
         }
         i = end + 1;
-        run = run_line(
-            run,
+        told = run_told(
+            told,
             device,
             message,
             held,
@@ -91,10 +98,13 @@ fn take_chunk(
         );
         count = 0;
     }
-    flush(out, run.gathered);
+    let failed = flush(out, told.gathered);
     Reached {
-        kept: run.kept,
+        kept: told.kept,
+        lines: told.lines,
+        reasons: told.reasons,
         count,
+        failed,
     }
 }
 
@@ -110,7 +120,7 @@ fn read_chunk(chunk: &mut [u8]) -> Chunk
     }
 }
 
-// Runs the whole script. A proved loop has to end, and nothing says that the input does: so the loop
+// Runs the whole script, or as much of it as can be answered. A proved loop has to end, and nothing says that the input does: so the loop
 // counts its turns down, from a number that no run uses up.
 pub fn run_script(
     device: &mut [u64; 945],
@@ -128,9 +138,15 @@ pub fn run_script(
     let mut turns = u64::MAX;
     let mut reached = Reached {
         kept: first_state(device),
+        lines: 0,
+        reasons: 0,
         count: 0,
+        failed: false,
     };
     while turns > 0 {
+        if reached.failed {
+            return;
+        }
         let got = read_chunk(chunk);
         if got.failed {
             say_failed();
@@ -187,12 +203,14 @@ fn run_rest(
 ) {
     let count = reached.count;
     if count > 0 {
-        let run = Run {
+        let told = Told {
             kept: reached.kept,
             gathered: 0,
+            lines: reached.lines,
+            reasons: reached.reasons,
         };
-        let last = run_line(
-            run,
+        let last = run_told(
+            told,
             device,
             message,
             held,
@@ -212,4 +230,5 @@ fn run_rest(
 // Says that the script could not be read to its end.
 fn say_failed() {
     io::write_all(STDERR_FILENO, b"replay: the script could not be read\n");
+    io::write_all(FAILED, b"read\n");
 }

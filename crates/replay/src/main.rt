@@ -1,6 +1,7 @@
 // Runs a script of commands from standard input, and writes one line for each to standard output.
 //
-// `input` reads the script and parts it into lines, `run` runs one of them, `output` writes the answers.
+// `input` reads the script and parts it into lines, `run` runs one of them, `output` writes the answers, and
+// `why` says on standard error why a line is `bad`, which the crate `reasons` finds.
 // What a line asks is in the crate `request`, what a call is answered in `report`, the commands on messages
 // in `sending`, and those on offers in `offering`, which `offer` runs. Nothing grows with the script: the
 // device, the store, the second slice and every buffer stand in `main` and are lent from there.
@@ -13,6 +14,7 @@ mod input;
 mod offer;
 mod output;
 mod run;
+mod why;
 
 // The store, of zeros.
 fn new_store() -> [u8; 1048576]

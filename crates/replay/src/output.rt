@@ -7,19 +7,25 @@ ghost use Prim.Native.Nat.{_≤_};
 ghost use lib.ListN.{length};
 ghost use Rattle.replay.specs.Output.{gatheredCount, gatheredBytes, answerLine};
 
-// Writes bytes to standard output, and says so where that fails.
-fn write_out(bytes: &[u8]) {
+// The descriptor on which `./replay`, the wrapper, hears that something failed: a program has no exit
+// status. Where nobody opened it, nothing is heard.
+pub const FAILED: i32 = 3;
+
+// Writes bytes to standard output, says so where that fails, and answers whether it did.
+fn write_out(bytes: &[u8]) -> bool {
     if io::write_all(STDOUT_FILENO, bytes) {
-        return;
+        return false;
     }
     io::write_all(STDERR_FILENO, b"replay: an answer could not be written\n");
+    io::write_all(FAILED, b"write\n");
+    true
 }
 
-// Writes what is gathered, the first `count` bytes of the buffer.
-pub fn flush(out: &[u8], count: usize)
+// Writes what is gathered, the first `count` bytes of the buffer, and answers whether that failed.
+pub fn flush(out: &[u8], count: usize) -> bool
     requires { ⌜ count ≤ length (now out) ⌝ }
 {
-    write_out(&out[..count]);
+    write_out(&out[..count])
 }
 
 // Puts more bytes behind the first `count` of the buffer, and answers how many there are then. Where

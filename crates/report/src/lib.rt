@@ -129,6 +129,38 @@ fn ended(answer: [u64; 8], text: &mut [u8]) -> usize
     then_code((answer[4] % 256) as u8, text, next)
 }
 
+// `state ended NUMBER LAYER/TYPE/CODE BUFFERS READS`: a stream that a refusal of the peer's bytes ended.
+fn ended_state(answer: [u64; 8], text: &mut [u8]) -> usize
+    ensures { λ r. ⌜ r ≤ length (now (text .entry)) ⌝ }
+{
+    let at = first(b"state ended", text);
+    let at = then_words(answer, 4, 6, text, at);
+    let at = then_part(answer[6], text, at);
+    let at = then_code((answer[7] % 256) as u8, text, at);
+    then_words(answer, 2, 4, text, at)
+}
+
+// A word, and then how many buffers and how many reads wait on a stream.
+fn waiting(word: &[u8], answer: [u64; 8], text: &mut [u8]) -> usize
+    ensures { λ r. ⌜ r ≤ length (now (text .entry)) ⌝ }
+{
+    let at = first(word, text);
+    then_words(answer, 2, 4, text, at)
+}
+
+// A stream's state: `state closed`, `state open BUFFERS READS`, `state ended ..` or `state terminated BUFFERS READS`.
+fn stated(answer: [u64; 8], text: &mut [u8]) -> usize
+    ensures { λ r. ⌜ r ≤ length (now (text .entry)) ⌝ }
+{
+    let state = answer[1];
+    match state {
+        0 => first(b"state closed", text),
+        1 => waiting(b"state open", answer, text),
+        2 => ended_state(answer, text),
+        _ => waiting(b"state terminated", answer, text),
+    }
+}
+
 // `opened` or `done`.
 fn done(number: u64, text: &mut [u8]) -> usize
     ensures { λ r. ⌜ r ≤ length (now (text .entry)) ⌝ }
@@ -193,6 +225,7 @@ pub fn tell(number: u64, answer: [u64; 8], text: &mut [u8]) -> usize
         12 => first(b"quiet", text),
         13 => steady(answer, text),
         14 => falling(answer, text),
+        15 => stated(answer, text),
         _ => taken(kind, answer, text),
     }
 }

@@ -65,6 +65,10 @@ liveName = 108 ∷ 105 ∷ 118 ∷ 101 ∷ []
 abbrev pub freeName : List ℕ
 freeName = 102 ∷ 114 ∷ 101 ∷ 101 ∷ []
 
+-- `state`
+abbrev pub stateName : List ℕ
+stateName = 115 ∷ 116 ∷ 97 ∷ 116 ∷ 101 ∷ []
+
 -- `tick`
 abbrev pub tickName : List ℕ
 tickName = 116 ∷ 105 ∷ 99 ∷ 107 ∷ []
@@ -122,7 +126,9 @@ shapeOf name =
     (pick (same name liveName) (shape 7 2)
     -- `free D`
     (pick (same name freeName) (shape 8 2)
-    (gaugeShape name))))))))
+    -- `state N`
+    (pick (same name stateName) (shape 12 2)
+    (gaugeShape name)))))))))
 
 -- LENGTH of `open` (0) is what is lent from then on
 abbrev pub keptAfter : ℕ → ℕ → List ℕ → ℕ

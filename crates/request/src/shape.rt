@@ -83,5 +83,11 @@ pub fn shape_of(name: &[u8]) -> Shape
             words: 2,
         };
     }
+    if same(name, b"state") {
+        return Shape {
+            number: 12,
+            words: 2,
+        };
+    }
     gauge_shape(name)
 }

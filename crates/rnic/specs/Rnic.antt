@@ -13,7 +13,9 @@ use Rattle.memory.specs.declared.part.Outcome.{Outcome}
 use Rattle.memory.specs.declared.part.Outcome.the-variants.{Done, Refused as NotDone}
 use Rattle.rdmap.specs.declared.stream.CloseAnswer.the-variants.{Refused as NotClosed}
 use Rattle.rdmap.specs.declared.stream.TakeAnswer.the-variants.{Refused as NotTaken}
-use Rattle.domain.specs.Domain.{newDomain, domainOpened, domainClosed, domainPosted, domainTaken, domainRegistered, domainDropped, domainTicked, domainReading}
+use Rattle.rdmap.specs.declared.stream.StateAnswer.{StateAnswer}
+use Rattle.rdmap.specs.declared.stream.StateAnswer.the-variants.{Refused as NotStated}
+use Rattle.domain.specs.Domain.{newDomain, domainOpened, domainClosed, domainPosted, domainTaken, domainState, domainRegistered, domainDropped, domainTicked, domainReading}
 use Rattle.domain.specs.declared.Answer.the-variants.{Refused}
 use Rattle.domain.specs.declared.Domain.{Domain}
 use Rattle.holding.specs.Offer.{domainReceives, domainReceivesBytes}
@@ -105,6 +107,10 @@ rnicTaken b n =
       rnic = withDomain b (n / 4) (domainTaken (domainAt b (n / 4)) (n % 4) .domain);
     })
     (record { answer = NotTaken 1; rnic = b })
+
+-- a question, which changes nothing
+unfoldable pub rnicState : Rnic → ℕ → StateAnswer
+rnicState b n = pick (leb n 15) (domainState (domainAt b (n / 4)) (n % 4)) (NotStated 1)
 
 -- the owner's part lies in the store, or 9, which no device that was opened gives
 unfoldable pub receivedOwned : Rnic → ℕ → ℕ → List ℕ → RnicReceived

@@ -18,6 +18,7 @@ ghost use Rattle.rnic.specs.Rnic.{
   rnicClosed,
   rnicPosted,
   rnicTaken,
+  rnicState,
   rnicReceived,
   rnicReceivedStore,
   receivedOwned,
@@ -37,6 +38,7 @@ use memory::part::Outcome;
 use memory::part::fits_in;
 use meter::gauge::Reading;
 use rdmap::stream::CloseAnswer;
+use rdmap::stream::StateAnswer;
 use rdmap::stream::TakeAnswer;
 
 // The length of the store, and the four domains.
@@ -273,6 +275,18 @@ pub fn take(b: Rnic, stream: u64) -> RnicTaken
         answer: TakeAnswer::Refused(1),
         rnic: b,
     }
+}
+
+// The state of a stream, with what waits on it.
+pub fn stream_state(b: Rnic, stream: u64) -> StateAnswer
+    ensures { λ r. ⌜ r ≡ rnicState b stream ⌝ }
+{
+    if stream <= 15 {
+        let owner = (stream / 4) as usize;
+        let dom = b.domains[owner];
+        return domain::stream_state(dom, stream % 4);
+    }
+    StateAnswer::Refused(1)
 }
 
 // Registers a window.

@@ -3,8 +3,8 @@
 // receive by itself. A call reads what it needs of the block and writes back what changed (`device`).
 //
 // Read `rnic_c_call` first. The crate `calls` has the numbers of the calls and the words of the answers;
-// include/rnic.h has both for C. `message` has the writer for messages, and `startup` the frames that open a
-// connection and what the two sides agree by them.
+// include/rnic.h has both for C. `message` has the writer for messages, `framing` the reader of FPDUs, and
+// `startup` the frames that open a connection and what the two sides agree by them.
 ghost use mathlib.Core.Path.{_≡_};
 ghost use lib.ListN.{length};
 ghost use Rattle.calls.specs.Call.{called, calledStore, calledReceive, calledOffer};
@@ -17,6 +17,7 @@ use calls::words::close_words;
 use calls::words::count_words;
 use calls::words::outcome_words;
 use calls::words::reading_words;
+use calls::words::state_words;
 use calls::words::take_words;
 use calls::words::words;
 use device::gauge::reading;
@@ -28,12 +29,14 @@ use device::receive::receive;
 use device::stream::close_stream;
 use device::stream::open_stream;
 use device::stream::post;
+use device::stream::stream_state;
 use device::stream::take;
 use device::window::drop_window;
 use device::window::live_count;
 use device::window::lowest_free;
 use device::window::register;
 
+pub mod framing;
 pub mod message;
 pub mod startup;
 
@@ -92,6 +95,9 @@ pub extern "C" fn rnic_c_call(
         }
         11 => {
             *answer = reading_words(reading(device, a[0]));
+        }
+        12 => {
+            *answer = state_words(stream_state(device, a[0]));
         }
         _ => {
             *answer = words(0, 1, 0, 0, 0, 0);

@@ -1,8 +1,8 @@
 //! Calls one by one: the scope paper's log, and a message of each kind.
 
-use host::raw::{ROOM, ROOMS};
-use host::{Closed, Device, Error, Event, Fault, Offered, ReadRequest, Reading, Received, Rooms};
-use host::{Window, RIGHT_READ, RIGHT_WRITE};
+use rnic::raw::{ROOM, ROOMS};
+use rnic::{Closed, Device, Error, Event, Fault, Offered, ReadRequest, Reading, Received, Rooms};
+use rnic::{StreamState, Window, RIGHT_READ, RIGHT_WRITE};
 
 /// The Write of the paper's log.
 pub const WRITE: [u8; 24] = [
@@ -151,6 +151,51 @@ fn sends_reads_and_a_terminate() {
     // A copy is a device of its own: its read still waits.
     let (buffers, reads) = (1, 1);
     assert_eq!(other.close_stream(4), Ok(Closed { buffers, reads }));
+}
+
+/// A stream's state: closed, open, ended by a refusal, ended by a Terminate; what waits on it is what closing counts.
+#[test]
+fn states_of_a_stream() {
+    let (mut device, mut store) = night(RIGHT_READ);
+    for stream in [16, u64::MAX] {
+        assert_eq!(device.state(stream), Err(Error::Refused(1)));
+    }
+    assert_eq!(device.state(5), Ok(StreamState::Closed));
+    let open = |buffers, reads| Ok(StreamState::Open { buffers, reads });
+    assert_eq!(device.state(4), open(0, 0));
+    for start in [1100, 1200] {
+        device.post(4, start, 5).unwrap();
+    }
+    let mut request = [0; 28];
+    (request[15], request[18], request[19], request[26]) = (4, 0x11, 5, 0x10);
+    let asked = device.receive(&mut store, 4, &untagged(1, 1, &request));
+    assert_eq!((asked, device.state(4)), (taken(52), open(2, 1)));
+    let mut first = untagged(3, 0, b"hel");
+    first[2] = 0x01;
+    let started = device.receive(&mut store, 4, &first);
+    assert_eq!((started, device.state(4)), (taken(28), open(2, 1)));
+
+    let mut terminated = device.clone();
+    let (buffers, reads) = (2, 1);
+    let gone = terminated.receive(&mut store, 4, &untagged(7, 2, &[0x12, 0x34, 0, 0]));
+    assert!(matches!(gone, Ok(Received::Taken { .. })));
+    let state = StreamState::Terminated { buffers, reads };
+    assert_eq!(terminated.state(4), Ok(state));
+
+    let Ok(Received::Ended(fault)) = device.receive(&mut store, 4, &WRITE) else {
+        panic!("the window cannot be written");
+    };
+    let state = StreamState::Ended {
+        fault,
+        buffers,
+        reads,
+    };
+    assert_eq!((fault.number, device.state(4)), (35, Ok(state)));
+    assert_eq!(device.state(0), Ok(StreamState::Closed));
+    for mut device in [device, terminated] {
+        assert_eq!(device.close_stream(4), Ok(Closed { buffers, reads }));
+        assert_eq!(device.state(4), Ok(StreamState::Closed));
+    }
 }
 
 /// The bytes of two Writes, one of them in pieces, are a first sample of 8; then nothing is placed, and the level falls by an

@@ -1,9 +1,9 @@
 //! The CRC of bytes whole and in pieces, beside the second program's ways.
 
-use host::{crc32c, crc32c_join, crc32c_update};
 use oracle::crc::crc32c_bitwise;
 use oracle::generate::prng::Prng;
 use oracle::pieces::{carry_on, join};
+use rnic::{crc32c, crc32c_join, crc32c_update};
 
 /// The CRC of some pieces, each carried on from those before it.
 fn in_turn(pieces: &[&[u8]]) -> u32 {

@@ -5,11 +5,14 @@ use std::fs;
 use std::mem::offset_of;
 use std::path::Path;
 
-use host::raw::{call, kind, startup, written, Arguments, Rnic, RnicMessage, Words, Written};
-use host::raw::{RnicStartup, RnicTerms, DEVICE_WORDS, ROOM, ROOMS};
-use host::{DEPTH_UNSAID, KIND_READ, KIND_SEND, KIND_WRITE};
-use oracle::mpa::MAX_FPDU;
+use oracle::mpa::{MAX_FPDU, MAX_ULPDU};
 use oracle::state::HELD;
+use rnic::raw::Written;
+use rnic::raw::{call, kind, startup, stream, written, Arguments, Rnic, RnicMessage, Words};
+use rnic::raw::{RnicStartup, RnicTerms, DEVICE_WORDS, ROOM, ROOMS};
+use rnic::{DEPTH_UNSAID, KIND_READ, KIND_SEND, KIND_WRITE};
+use rnic::{OPCODE_SEND, OPCODE_SEND_INVALIDATE, OPCODE_SEND_SE, OPCODE_SEND_SE_INVALIDATE};
+use rnic::{RIGHT_READ, RIGHT_WRITE};
 
 /// Reads the header.
 pub fn header() -> String {
@@ -34,6 +37,41 @@ fn number_after(header: &str, text: &str) -> Option<u64> {
     };
     let digits = digits.split(|next: char| !next.is_digit(base)).next()?;
     u64::from_str_radix(digits, base).ok()
+}
+
+/// The version, whole and in its three numbers, is the crate's.
+#[test]
+fn versions_agree() {
+    let header = header();
+    let line = format!("#define RNIC_VERSION \"{}\"\n", rnic::version());
+    assert_eq!(header.matches(&line).count(), 1);
+    let parts = ["MAJOR", "MINOR", "PATCH"].map(|part| {
+        let part = defined(&header, &format!("RNIC_VERSION_{part}"));
+        part.unwrap().to_string()
+    });
+    assert_eq!(parts.join("."), rnic::VERSION);
+}
+
+/// The limits are those of the second program and of the rooms.
+#[test]
+fn limits_agree() {
+    let header = header();
+    for (name, limit) in [
+        ("DOMAINS", 4),
+        ("STREAMS", 16),
+        ("WINDOWS", 64),
+        ("DOMAIN_STREAMS", 16 / 4),
+        ("DOMAIN_WINDOWS", 64 / 4),
+        ("MAX_STORE", 1 << 24),
+        ("MAX_BUFFERS", 8),
+        ("MAX_READS", 8),
+        ("MAX_ULPDU", MAX_ULPDU as u64),
+        ("MAX_FPDU", MAX_FPDU as u64),
+        ("MIN_LIMIT", 19),
+    ] {
+        let found = defined(&header, &format!("RNIC_{name}"));
+        assert_eq!(found, Some(limit), "{name}");
+    }
 }
 
 #[test]
@@ -68,6 +106,20 @@ fn header_and_crate_agree() {
         ("RECEIVE", call::RECEIVE),
         ("TICK", call::TICK),
         ("READING", call::READING),
+        ("STATE", call::STATE),
+        ("STREAM_CLOSED", stream::CLOSED),
+        ("STREAM_OPEN", stream::OPEN),
+        ("STREAM_ENDED", stream::ENDED),
+        ("STREAM_TERMINATED", stream::TERMINATED),
+        ("RIGHT_WRITE", RIGHT_WRITE),
+        ("RIGHT_READ", RIGHT_READ),
+        ("OPCODE_SEND", OPCODE_SEND.into()),
+        ("OPCODE_SEND_INVALIDATE", OPCODE_SEND_INVALIDATE.into()),
+        ("OPCODE_SEND_SE", OPCODE_SEND_SE.into()),
+        (
+            "OPCODE_SEND_SE_INVALIDATE",
+            OPCODE_SEND_SE_INVALIDATE.into(),
+        ),
         ("REFUSED", kind::REFUSED),
         ("DONE", kind::DONE),
         ("CLOSED", kind::CLOSED),
@@ -83,6 +135,7 @@ fn header_and_crate_agree() {
         ("QUIET", kind::QUIET),
         ("STEADY", kind::STEADY),
         ("FALLING", kind::FALLING),
+        ("STATED", kind::STATED),
         ("NOT_WRITTEN", written::NOT_WRITTEN),
         ("WROTE", written::WROTE),
         ("NO_MORE", written::NO_MORE),

@@ -1,8 +1,8 @@
 //! Numbers and bytes of every kind.
 
-use host::raw::{Arguments, ROOM};
-use host::{Device, Error, Rooms, Window};
 use oracle::generate::prng::Prng;
+use rnic::raw::{Arguments, ROOM};
+use rnic::{Device, Error, Rooms, Window};
 
 use crate::calls::WRITE;
 use crate::support::numbered::Numbered;
@@ -22,7 +22,7 @@ fn numbers_of_no_call() {
         let words = device.words(&mut [], number, &arguments, &[]);
         assert_eq!(words, [1, 0, 0, 0, 0, 0, 0, 0]);
     }
-    for number in [12, 13, 255, 256, 1 << 32, (1 << 32) + 1, u64::MAX] {
+    for number in [13, 14, 255, 256, 1 << 32, (1 << 32) + 1, u64::MAX] {
         let arguments = std::array::from_fn(|_| prng.below(20));
         let words = device.words(&mut store, number, &arguments, &WRITE);
         assert_eq!(words, [0, 1, 0, 0, 0, 0, 0, 0], "{number}");
@@ -69,6 +69,7 @@ fn any_input() {
             device.lowest_free(d).err(),
             device.tick(b).err(),
             device.reading(e).err(),
+            device.state(f).err(),
             device.drop_window(e).err(),
             device.close_stream(f).err(),
             device.open(b % 128, [0..a % 99, a..c, c..d, d..e]).err(),

@@ -2,10 +2,10 @@
 //!
 //! Every call here is made through `Numbered`, which watches the words beside the device.
 
-use host::raw::{call, kind, Arguments, Words, DEVICE_WORDS, ROOM};
-use host::Device;
 use oracle::generate::draft::{frame, Draft, Sink};
 use oracle::generate::prng::Prng;
+use rnic::raw::{call, kind, stream, Arguments, Words, DEVICE_WORDS, ROOM};
+use rnic::Device;
 
 use crate::support::numbered::Numbered;
 use crate::support::{any_rooms, night, Program};
@@ -226,13 +226,15 @@ fn equal_devices() {
     assert!(device == Device::new());
 }
 
-/// Says whether words are an answer: a kind that there is, a local refusal's number where it is one, and finite floats.
+/// Says whether words are an answer: a kind that there is, a local refusal's number where it is one, finite floats, and one of
+/// the four states of a stream.
 fn is_answer(words: &Words) -> bool {
     match words[0] {
         kind::REFUSED => matches!(words[1], 1..=11 | 16 | 19),
         kind::STEADY | kind::FALLING => words[1..3]
             .iter()
             .all(|bits| f64::from_bits(*bits).is_finite()),
+        kind::STATED => words[1] <= stream::TERMINATED,
         other => other <= kind::QUIET,
     }
 }
@@ -251,7 +253,7 @@ fn any_words_are_a_device() {
             words[0] = SMALL as u64;
         }
         for mut device in [Numbered::holding(&words), Numbered::holding(&words).alone()] {
-            for number in [1, 2, 3, 4, 5, 6, 7, 8, 9, 9, 11, 10, 11, 12] {
+            for number in [1, 2, 3, 4, 5, 6, 7, 8, 9, 9, 11, 10, 11, 12, 13] {
                 let given = std::array::from_fn(|_| prng.below(70));
                 (write.tagged, write.opcode) = (prng.percent(50), prng.below(8) as u8);
                 (write.stag, write.to) = (prng.below(1 << 14) as u32, prng.draw());

@@ -1,5 +1,5 @@
-//! The C interface as a Rust program sees it: its layout, its calls, its CRC, its messages, bytes cut anywhere, startup, the
-//! stored scripts, and random nights beside the second program.
+//! The C interface as a Rust program sees it: its layout, its calls, its CRC, its messages, bytes cut anywhere, the questions,
+//! startup, the stored scripts, and random nights beside the second program.
 
 mod calls;
 mod crc;
@@ -9,6 +9,7 @@ mod inputs;
 mod layout;
 mod messages;
 mod nights;
+mod questions;
 mod stack;
 mod startup;
 mod stored;

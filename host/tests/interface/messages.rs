@@ -1,10 +1,12 @@
 //! Messages from the writer, beside the second program's, framed and given to another device.
 
-use host::{write_fpdu, Device, Error, Event, Message, Received, Window, RIGHT_WRITE};
 use oracle::generate::prng::Prng;
 use oracle::mpa;
 use oracle::refusal::Refusal;
 use oracle::sender;
+use rnic::{
+    read_fpdu, write_fpdu, Device, Error, Event, FpduRead, Message, Received, Window, RIGHT_WRITE,
+};
 
 /// The store of the device that receives, of which every domain has a quarter.
 const STORE: usize = 131_072;
@@ -278,4 +280,52 @@ fn frames_refused() {
     assert_eq!(write_fpdu(&[], &mut out[..8]), Ok(8));
     assert_eq!(write_fpdu(&[0; 8191], &mut out[..8200]), Ok(8200));
     assert_eq!(write_fpdu(&[0; 8192], &mut out[..8200]), Ok(8200));
+}
+
+/// Gives what the second program reads as the first FPDU of some bytes.
+fn read_there(crc: bool, bytes: &[u8]) -> Result<FpduRead<'_>, Error> {
+    match mpa::read_fpdu(crc, bytes) {
+        mpa::Frame::Wait(total) => Ok(FpduRead::Wait(total)),
+        mpa::Frame::Whole { total, ulpdu } => Ok(FpduRead::Taken { total, ulpdu }),
+        mpa::Frame::Fault(fault) => Err(Error::Refused(fault.number)),
+    }
+}
+
+/// FPDUs are read as the second program reads them: whole, cut short, with bytes after them, damaged, and over the limit.
+#[test]
+fn fpdus_are_read() {
+    let mut prng = Prng::new(13);
+    let mut told = [0; 4];
+    for _ in 0..20_000 {
+        let length = match prng.below(4) {
+            0 => prng.below(8),
+            1 => 8185 + prng.below(8),
+            _ => prng.below(600),
+        } as usize;
+        let ulpdu: Vec<u8> = (0..length).map(|_| prng.below(256) as u8).collect();
+        let mut bytes = vec![0; 8200 + 16];
+        let total = write_fpdu(&ulpdu, &mut bytes).expect("it fits");
+        let taken = match prng.below(3) {
+            0 => prng.below(total as u64 + 1) as usize,
+            1 => total,
+            _ => total + prng.below(17) as usize,
+        };
+        bytes.truncate(taken.min(bytes.len()));
+        if !bytes.is_empty() && prng.below(3) == 0 {
+            let place = prng.below(bytes.len().min(total) as u64) as usize;
+            bytes[place] ^= 1 << prng.below(8);
+        }
+        for crc in [false, true] {
+            let read = read_fpdu(crc, &bytes);
+            assert_eq!(read, read_there(crc, &bytes));
+            let kind = match read {
+                Ok(FpduRead::Wait(_)) => 0,
+                Ok(FpduRead::Taken { .. }) => 1,
+                Err(Error::Refused(20)) => 2,
+                _ => 3,
+            };
+            told[kind] += 1;
+        }
+    }
+    assert!(told.iter().all(|count| *count >= 100), "{told:?}");
 }

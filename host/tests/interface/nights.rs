@@ -3,9 +3,9 @@
 
 use crate::support::numbered::Numbered;
 use crate::support::{compare, Calls};
-use host::Device;
 use oracle::refusal::FAULTS;
 use oracle::tally::Tally;
+use rnic::Device;
 
 const MIB: usize = 1 << 20;
 
@@ -36,6 +36,10 @@ fn nights<D: Calls>(new: fn() -> D, size: usize, seeds: std::ops::Range<u64>, li
         "quiet",
         "steady",
         "falling",
+        "state closed",
+        "state open",
+        "state ended",
+        "state terminated",
     ] {
         assert!(tally.count_all(kind) >= 10, "{kind}:\n{tally}");
     }

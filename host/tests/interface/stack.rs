@@ -4,13 +4,13 @@
 
 use std::collections::BTreeMap;
 
-use host::raw::{call, kind, rnic_c_call, rnic_c_held, rnic_c_offer, rnic_c_receive};
-use host::raw::{rnic_c_agree_answer, rnic_c_agree_settle};
-use host::raw::{rnic_c_crc32c, rnic_c_crc32c_join, rnic_c_crc32c_update};
-use host::raw::{rnic_c_fpdu_write, rnic_c_message_next, rnic_c_message_send};
-use host::raw::{rnic_c_message_write, Rnic, RnicMessage, Words, Written, ROOM};
-use host::raw::{rnic_c_startup_read, rnic_c_startup_write, RnicStartup, RnicTerms};
 use oracle::command::Command;
+use rnic::raw::{call, kind, rnic_c_call, rnic_c_held, rnic_c_offer, rnic_c_receive};
+use rnic::raw::{rnic_c_agree_answer, rnic_c_agree_settle};
+use rnic::raw::{rnic_c_crc32c, rnic_c_crc32c_join, rnic_c_crc32c_update};
+use rnic::raw::{rnic_c_fpdu_read, rnic_c_fpdu_write, rnic_c_message_next, rnic_c_message_send};
+use rnic::raw::{rnic_c_message_write, FpduWords, Rnic, RnicMessage, Words, Written, ROOM};
+use rnic::raw::{rnic_c_startup_read, rnic_c_startup_write, RnicStartup, RnicTerms};
 
 use crate::header::{defined, header};
 use crate::support::numbered::{encode, text};
@@ -140,6 +140,7 @@ fn label(number: u64, bytes: &[u8], answer: &Words) -> String {
         call::LOWEST_FREE => "lowest_free",
         call::TICK => "tick",
         call::READING => "reading",
+        call::STATE => "state",
         _ => "receive",
     };
     let behind = match number {
@@ -272,6 +273,39 @@ fn next_depths() -> [usize; 2] {
                     .call(rnic_c_fpdu_write as *const (), words)
                     .max(most[1]);
             }
+        }
+    }
+    most
+}
+
+/// Gives the most bytes of stack that reading an FPDU takes: whole, cut short and damaged, with the CRC off and on.
+fn fpdu_read_depth() -> usize {
+    let (ulpdu, mut frame) = ([7u8; 8192], [0u8; 8200]);
+    let mut answer: FpduWords = [0; 4];
+    let mut stack = Painted::new();
+    let mut most = 0;
+    for length in [0, 1, 64, 2034, 8192] {
+        let total = rnic::write_fpdu(&ulpdu[..length], &mut frame).expect("it fits");
+        for (crc, given, flip) in [
+            (0, total, 0),
+            (1, total, 0),
+            (1, total - 1, 0),
+            (1, total, 1),
+        ] {
+            frame[2] ^= flip;
+            let words = [
+                crc,
+                frame.as_ptr() as usize,
+                given,
+                &raw mut answer as usize,
+                0,
+                0,
+                0,
+                0,
+            ];
+            // SAFETY: the pointers are those of values that are held for the call, with their lengths.
+            most = unsafe { stack.call(rnic_c_fpdu_read as *const (), words) }.max(most);
+            frame[2] ^= flip;
         }
     }
     most
@@ -410,7 +444,7 @@ fn stack_of_the_entries() {
         "rnic_c_agree_answer, rnic_c_agree_settle: {}",
         agree_depth()
     );
-    assert_eq!(columns[0].len(), 41, "every call and answer is met");
+    assert_eq!(columns[0].len(), 43, "every call and answer is met");
     let most = [
         ("RNIC_C_CALL_STACK", called.map(|(_, depth)| *depth).max()),
         ("RNIC_C_RECEIVE_STACK", most(1, "receive")),
@@ -422,6 +456,7 @@ fn stack_of_the_entries() {
         ("RNIC_C_MESSAGE_STACK", Some(begin_depth())),
         ("RNIC_C_MESSAGE_NEXT_STACK", Some(next)),
         ("RNIC_C_FPDU_WRITE_STACK", Some(fpdu)),
+        ("RNIC_C_FPDU_READ_STACK", Some(fpdu_read_depth())),
         ("RNIC_C_STARTUP_READ_STACK", Some(read)),
         ("RNIC_C_STARTUP_WRITE_STACK", Some(write)),
         ("RNIC_C_AGREE_STACK", Some(agree_depth())),

@@ -4,10 +4,6 @@
 use std::fs;
 use std::path::Path;
 
-use host::raw::{rnic_c_agree_answer, rnic_c_agree_settle, rnic_c_startup_read};
-use host::raw::{rnic_c_startup_write, startup, RnicStartup, RnicTerms, Written};
-use host::{answer, read_startup, settle, write_startup};
-use host::{Answered, Error, Form, Role, Startup, StartupRead, Terms, DEPTH_UNSAID};
 use oracle::agree::{self, Own};
 use oracle::command::{parse, Command, Line};
 use oracle::generate::frames;
@@ -16,6 +12,10 @@ use oracle::hex;
 use oracle::refusal::Refusal;
 use oracle::startup as first;
 use oracle::startup2::{self as second, Establishment};
+use rnic::raw::{rnic_c_agree_answer, rnic_c_agree_settle, rnic_c_startup_read};
+use rnic::raw::{rnic_c_startup_write, startup, RnicStartup, RnicTerms, Written};
+use rnic::{answer, read_startup, settle, write_startup};
+use rnic::{Answered, Error, Form, Role, Startup, StartupRead, Terms, DEPTH_UNSAID};
 
 /// The longest output: a script's room over it counts as this.
 const MAX_ROOM: u64 = 65_536;
@@ -405,7 +405,7 @@ fn run(command: Command) -> Option<String> {
         }
         _ => return None,
     };
-    Some(answer.unwrap_or_else(|error| error.to_string()))
+    Some(answer.unwrap_or_else(crate::support::device::refused))
 }
 
 /// Runs the lines on startup of a stored script, each answer the stored one; gives how many there were.

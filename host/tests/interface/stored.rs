@@ -3,9 +3,9 @@
 use std::fs;
 use std::path::Path;
 
-use host::Device;
 use oracle::command::{parse, Command, Line};
 use oracle::script::STORE;
+use rnic::Device;
 
 use crate::support::Program;
 

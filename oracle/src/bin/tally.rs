@@ -1,11 +1,11 @@
 //! The program that counts answers: `tally LEAST` reads answers, writes how often each kind was given, and fails where
-//! a refusal or a reading was given fewer times than that.
+//! a refusal, a reading or a stream's state was given fewer times than that.
 
 use std::env;
 use std::io::{self, BufRead};
 use std::process::ExitCode;
 
-use oracle::tally::{readings, refusals, Tally};
+use oracle::tally::{readings, refusals, states, Tally};
 
 /// Counts the answers on standard input.
 fn main() -> ExitCode {
@@ -31,7 +31,7 @@ fn count() -> io::Result<Tally> {
     Ok(tally)
 }
 
-/// Writes the counts, and names each refusal and each reading that was given too seldom.
+/// Writes the counts, and names each refusal, reading and state that was given too seldom.
 fn judge(tally: &Tally, least: u64) -> ExitCode {
     let refusals = refusals();
     let kinds = tally.taken_kinds();
@@ -41,6 +41,7 @@ fn judge(tally: &Tally, least: u64) -> ExitCode {
     let rare = refusals
         .into_iter()
         .chain(readings())
+        .chain(states())
         .filter(|kind| tally.count_all(kind) < least);
     let rare: Vec<String> = rare.collect();
     if rare.is_empty() {

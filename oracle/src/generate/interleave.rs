@@ -11,6 +11,9 @@ use crate::state::{DOMAINS, STREAMS_PER_DOMAIN};
 /// The comment before each of the domain's own calls.
 pub const OWN: &str = "# own";
 
+/// The calls that name a stream and may change it.
+const CHANGES_STREAM: [&[u8]; 6] = [b"stream", b"close", b"post", b"take", b"receive", b"offer"];
+
 /// The opening and the calls of one domain, which turn on nothing that another does.
 struct Own {
     opening: String,
@@ -38,7 +41,7 @@ pub fn write_script(
 }
 
 /// Makes the opening and `count` calls of a domain that is alone, each followed by a look at its part, an offer also by the
-/// question what its stream holds, and a tick by the reading.
+/// question what its stream holds, a tick by the reading, and a call on a stream by its state.
 fn own_calls(seed: u64, domain: usize, count: u64) -> Own {
     let opening = roomy_opening(&mut Prng::new(seed), domain);
     let mut night = Night::new(seed, vec![domain], count + 1);
@@ -51,9 +54,9 @@ fn own_calls(seed: u64, domain: usize, count: u64) -> Own {
     let lines = night.lines.into_iter().skip(1).chain(last_calls(domain));
     let mut calls = Vec::new();
     for line in lines {
-        let question = held_after(&line).or_else(|| reading_after(&line));
+        let questions = [held_after(&line), reading_after(&line), state_after(&line)];
         calls.push(line);
-        calls.extend(question);
+        calls.extend(questions.into_iter().flatten());
         calls.push(show.clone());
     }
     Own {
@@ -76,6 +79,14 @@ fn reading_after(line: &[u8]) -> Option<Vec<u8>> {
     Some([b"reading ", domain].concat())
 }
 
+/// Asks after a call that may change a stream what its state is.
+fn state_after(line: &[u8]) -> Option<Vec<u8>> {
+    let mut words = line.split(|&byte| byte == b' ');
+    let called = CHANGES_STREAM.contains(&words.next()?);
+    let stream = words.next().filter(|_| called)?;
+    Some([b"state ", stream].concat())
+}
+
 /// Gives the calls that bring to light what a domain's state still holds.
 fn last_calls(domain: usize) -> Vec<Vec<u8>> {
     let first = domain * STREAMS_PER_DOMAIN;
@@ -83,7 +94,8 @@ fn last_calls(domain: usize) -> Vec<Vec<u8>> {
         .map(|word| format!("{word} {domain}"))
         .to_vec();
     for stream in first..first + STREAMS_PER_DOMAIN {
-        lines.extend(["held", "take", "close"].map(|word| format!("{word} {stream}")));
+        let words = ["held", "state", "take", "close"];
+        lines.extend(words.map(|word| format!("{word} {stream}")));
     }
     lines.into_iter().map(String::into_bytes).collect()
 }

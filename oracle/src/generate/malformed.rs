@@ -163,6 +163,10 @@ fn other_line(prng: &mut Prng) -> Vec<u8> {
         b"reading",
         b"reading -",
         b"reading 0 0",
+        b"state",
+        b"state -",
+        b"state 0 0",
+        b"state 0 open",
         b"-",
         b"\xFF\xFE",
     ]);

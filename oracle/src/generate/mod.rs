@@ -19,3 +19,4 @@ pub mod samples;
 pub mod segments;
 mod startups;
 mod startups2;
+mod states;

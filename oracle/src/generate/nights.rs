@@ -66,11 +66,12 @@ pub(super) fn write_steps(
     out.flush()
 }
 
-/// A night under way: the domains whose calls it makes, the length that most openings have where there is one, how many
-/// FPDUs in a hundred it spoils, what is to follow the bytes that each stream holds, its lines so far and the number still
-/// to come.
+/// A night under way: what it draws from, and apart from that for its questions, the domains whose calls it makes, the length
+/// that most openings have where there is one, how many FPDUs in a hundred it spoils, what is to follow the bytes that each
+/// stream holds, its lines so far and the number still to come.
 pub(super) struct Night {
     pub(super) prng: Prng,
+    pub(super) asking: Prng,
     pub(super) interpreter: Interpreter,
     pub(super) domains: Vec<usize>,
     usual: Option<u64>,
@@ -85,6 +86,7 @@ impl Night {
     pub(super) fn new(seed: u64, domains: Vec<usize>, left: u64) -> Self {
         Night {
             prng: Prng::new(seed),
+            asking: Prng::new(!seed),
             interpreter: Interpreter::default(),
             domains,
             usual: None,
@@ -128,10 +130,11 @@ impl Night {
         }
     }
 
-    /// Makes a call that the condition of one of its domains' streams suggests.
+    /// Makes a call that the condition of one of its domains' streams suggests, at times after the question what it is.
     pub(super) fn call(&mut self) {
         let domain = self.prng.pick(&self.domains);
         let stream = domain * STREAMS_PER_DOMAIN + self.prng.index(STREAMS_PER_DOMAIN);
+        self.ask_state(stream);
         match self.interpreter.device.streams[stream].condition {
             Condition::Closed if self.prng.percent(90) => self.open_stream(stream),
             Condition::Faulted(_) | Condition::Terminated if self.prng.percent(80) => {

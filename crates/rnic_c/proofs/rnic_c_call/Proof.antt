@@ -1,7 +1,7 @@
 -- `rnic_c_call` meets its contract: the number is that of one arm, which picks the case of `called`, or it is none of them.
 use Rattle.block.specs.Device.{rnicAt}
 use Rattle.calls.specs.Call.{called, calledStore}
-use Rattle.calls.specs.Words.{outcomeWords, closeWords, takeWords, countWords, readingWords}
+use Rattle.calls.specs.Words.{outcomeWords, closeWords, takeWords, countWords, readingWords, stateWords}
 use borrow.Author.Tests.{ne-eqb}
 use lib.ListN.{length}
 use mathlib.Core.Path.{_≡_, refl, sym, ap, _∙_}
@@ -162,6 +162,15 @@ reading-requires c κs = search needs
 reading-words-requires : tie.Need-reading-words-requires
 reading-words-requires c κs = search needs
 
+element-copy-out-stream-state : tie.Need-element-copy-out-stream-state
+element-copy-out-stream-state c = search needs
+
+stream-state-requires : tie.Need-stream-state-requires
+stream-state-requires c κs = search needs
+
+state-words-requires : tie.Need-state-words-requires
+state-words-requires c κs = search needs
+
 words-requires : tie.Need-words-requires
 words-requires c κs = search needs
 
@@ -254,10 +263,17 @@ returns-12 c =
 
 returns-13 : tie.Need-returns-13
 unfolding called calledStore
-returns-13 c = (
-  simp (ne-eqb _ _ (c .before .match .rest .0 .0 .0 .0 .0 .0 .0 .0 .0 .0 .0 .1), ne-eqb _ _ (c .before .match .rest .0 .0 .0 .0 .0 .0 .0 .0 .0 .0 .1), ne-eqb _ _ (c .before .match .rest .0 .0 .0 .0 .0 .0 .0 .0 .0 .1), ne-eqb _ _ (c .before .match .rest .0 .0 .0 .0 .0 .0 .0 .0 .1), ne-eqb _ _ (c .before .match .rest .0 .0 .0 .0 .0 .0 .0 .1), ne-eqb _ _ (c .before .match .rest .0 .0 .0 .0 .0 .0 .1), ne-eqb _ _ (c .before .match .rest .0 .0 .0 .0 .0 .1), ne-eqb _ _ (c .before .match .rest .0 .0 .0 .0 .1), ne-eqb _ _ (c .before .match .rest .0 .0 .0 .1), ne-eqb _ _ (c .before .match .rest .0 .0 .1), ne-eqb _ _ (c .before .match .rest .0 .1), ne-eqb _ _ (c .before .match .rest .1)),
-  simp (ne-eqb _ _ (c .before .match .rest .0 .0 .0 .0 .0 .0 .0 .0 .0 .0 .0 .1), ne-eqb _ _ (c .before .match .rest .0 .0 .0 .0 .0 .0 .0 .0 .0 .0 .1), ne-eqb _ _ (c .before .match .rest .0 .0 .0 .0 .0 .0 .0 .0 .0 .1), ne-eqb _ _ (c .before .match .rest .0 .0 .0 .0 .0 .0 .0 .0 .1), ne-eqb _ _ (c .before .match .rest .0 .0 .0 .0 .0 .0 .0 .1), ne-eqb _ _ (c .before .match .rest .0 .0 .0 .0 .0 .0 .1), ne-eqb _ _ (c .before .match .rest .0 .0 .0 .0 .0 .1), ne-eqb _ _ (c .before .match .rest .0 .0 .0 .0 .1), ne-eqb _ _ (c .before .match .rest .0 .0 .0 .1), ne-eqb _ _ (c .before .match .rest .0 .0 .1), ne-eqb _ _ (c .before .match .rest .0 .1), ne-eqb _ _ (c .before .match .rest .1)) (c .words .ensures),
-  simp (ne-eqb _ _ (c .before .match .rest .0 .0 .1)),
+returns-13 c =
+    let x = c .before .before .before .before .before .before .before .args in
+    let e = sym (c .before .before .before .before .match .keys13) in
+    (ap (λ n. called (rnicAt (x .device .now)) (length (x .store .now)) n (x .a .now) (x .bytes .now) .rnic) e, c .state-words .ensures ∙ ap stateWords (c .before .stream-state .ensures) ∙ ap (λ n. called (rnicAt (x .device .now)) (length (x .store .now)) n (x .a .now) (x .bytes .now) .words) e, ap (λ n. calledStore (rnicAt (x .device .now)) n (x .a .now) (x .bytes .now) (x .store .now)) e)
+
+returns-14 : tie.Need-returns-14
+unfolding called calledStore
+returns-14 c = (
+  simp (ne-eqb _ _ (c .before .match .rest .0 .0 .0 .0 .0 .0 .0 .0 .0 .0 .0 .0 .1), ne-eqb _ _ (c .before .match .rest .0 .0 .0 .0 .0 .0 .0 .0 .0 .0 .0 .1), ne-eqb _ _ (c .before .match .rest .0 .0 .0 .0 .0 .0 .0 .0 .0 .0 .1), ne-eqb _ _ (c .before .match .rest .0 .0 .0 .0 .0 .0 .0 .0 .0 .1), ne-eqb _ _ (c .before .match .rest .0 .0 .0 .0 .0 .0 .0 .0 .1), ne-eqb _ _ (c .before .match .rest .0 .0 .0 .0 .0 .0 .0 .1), ne-eqb _ _ (c .before .match .rest .0 .0 .0 .0 .0 .0 .1), ne-eqb _ _ (c .before .match .rest .0 .0 .0 .0 .0 .1), ne-eqb _ _ (c .before .match .rest .0 .0 .0 .0 .1), ne-eqb _ _ (c .before .match .rest .0 .0 .0 .1), ne-eqb _ _ (c .before .match .rest .0 .0 .1), ne-eqb _ _ (c .before .match .rest .0 .1), ne-eqb _ _ (c .before .match .rest .1)),
+  simp (ne-eqb _ _ (c .before .match .rest .0 .0 .0 .0 .0 .0 .0 .0 .0 .0 .0 .0 .1), ne-eqb _ _ (c .before .match .rest .0 .0 .0 .0 .0 .0 .0 .0 .0 .0 .0 .1), ne-eqb _ _ (c .before .match .rest .0 .0 .0 .0 .0 .0 .0 .0 .0 .0 .1), ne-eqb _ _ (c .before .match .rest .0 .0 .0 .0 .0 .0 .0 .0 .0 .1), ne-eqb _ _ (c .before .match .rest .0 .0 .0 .0 .0 .0 .0 .0 .1), ne-eqb _ _ (c .before .match .rest .0 .0 .0 .0 .0 .0 .0 .1), ne-eqb _ _ (c .before .match .rest .0 .0 .0 .0 .0 .0 .1), ne-eqb _ _ (c .before .match .rest .0 .0 .0 .0 .0 .1), ne-eqb _ _ (c .before .match .rest .0 .0 .0 .0 .1), ne-eqb _ _ (c .before .match .rest .0 .0 .0 .1), ne-eqb _ _ (c .before .match .rest .0 .0 .1), ne-eqb _ _ (c .before .match .rest .0 .1), ne-eqb _ _ (c .before .match .rest .1)) (c .words .ensures),
+  simp (ne-eqb _ _ (c .before .match .rest .0 .0 .0 .1)),
 )
 
 pub rnic-c-call-spec : {M : Type 1} → statement M
@@ -315,6 +331,9 @@ rnic-c-call-spec =
     element-copy-out-reading
     reading-requires
     reading-words-requires
+    element-copy-out-stream-state
+    stream-state-requires
+    state-words-requires
     words-requires
     returns
     returns-2
@@ -329,4 +348,5 @@ rnic-c-call-spec =
     returns-10
     returns-11
     returns-12
-    returns-13)
+    returns-13
+    returns-14)

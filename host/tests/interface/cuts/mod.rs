@@ -5,9 +5,9 @@ mod maker;
 mod received;
 mod run;
 
-use host::raw::{kind, ROOM};
 use oracle::generate::prng::Prng;
 use oracle::state::{stream_domain, STREAMS};
+use rnic::raw::{kind, ROOM};
 
 use crate::support::numbered::Numbered;
 use crate::support::{any_rooms, same_beside, Program};

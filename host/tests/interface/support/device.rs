@@ -1,13 +1,21 @@
 //! The safe functions as a device for scripts.
 
-use host::{Device, Error, Event, Fault, Offered, Reading, Received, Window};
 use oracle::command::Command;
+use rnic::{Device, Error, Event, Fault, Offered, Reading, Received, StreamState, Window};
 
 use super::Calls;
 
 impl Calls for Device {
     fn call(&mut self, command: &Command, store: &mut [u8], rooms: &mut [u8]) -> String {
-        answer(self, command, store, rooms).unwrap_or_else(|error| error.to_string())
+        answer(self, command, store, rooms).unwrap_or_else(refused)
+    }
+}
+
+/// Writes a refusal as a script's answer has it, the number alone.
+pub fn refused(error: Error) -> String {
+    match error {
+        Error::Refused(number) => format!("refused {number}"),
+        Error::Unexpected(words) => format!("no answer: {words:?}"),
     }
 }
 
@@ -52,6 +60,7 @@ fn answer(
         Command::Free(domain) => format!("free {}", device.lowest_free(*domain)?),
         Command::Tick(domain) => done(device.tick(*domain)?),
         Command::Reading(domain) => gauged(device.reading(*domain)?),
+        Command::State(stream) => stated(device.state(*stream)?),
         _ => String::from("no call of the device"),
     })
 }
@@ -95,6 +104,20 @@ fn gauged(reading: Reading) -> String {
     }
 }
 
+/// Writes what a stream's state is.
+fn stated(state: StreamState) -> String {
+    match state {
+        StreamState::Closed => String::from("state closed"),
+        StreamState::Open { buffers, reads } => format!("state open {buffers} {reads}"),
+        StreamState::Ended {
+            fault,
+            buffers,
+            reads,
+        } => format!("state ended {} {buffers} {reads}", numbers(fault)),
+        StreamState::Terminated { buffers, reads } => format!("state terminated {buffers} {reads}"),
+    }
+}
+
 /// Writes what receive answers.
 fn received(answer: Received) -> String {
     match answer {
@@ -119,13 +142,18 @@ fn offered(answer: Offered) -> String {
 
 /// Writes a refusal of the peer's bytes.
 fn ended(fault: Fault) -> String {
+    format!("refused {}", numbers(fault))
+}
+
+/// Writes a fault's number, layer, type and code.
+fn numbers(fault: Fault) -> String {
     let Fault {
         number,
         layer,
         etype,
         code,
     } = fault;
-    format!("refused {number} {layer}/{etype}/{code:02X}")
+    format!("{number} {layer}/{etype}/{code:02X}")
 }
 
 /// Writes an event, a space before it where there is one.

@@ -4,7 +4,6 @@ pub mod device;
 pub mod numbered;
 pub mod painted;
 
-use host::raw::{ROOM, ROOMS};
 use oracle::command::{parse, Command, Line};
 use oracle::generate::nights;
 use oracle::generate::prng::Prng;
@@ -12,6 +11,7 @@ use oracle::hex;
 use oracle::script::Interpreter;
 use oracle::state::{Device as Second, STREAMS};
 use oracle::tally::Tally;
+use rnic::raw::{ROOM, ROOMS};
 
 /// A store so small that all of it is compared after each line.
 const SMALL: usize = 65_536;

@@ -1,8 +1,8 @@
 //! The entries themselves, as a device for scripts, every call but an offer by its number: numbers in, words out.
 
-use host::raw::{call, kind, rnic_c_call, rnic_c_held, rnic_c_offer, rnic_c_receive};
-use host::raw::{Arguments, Words, DEVICE_WORDS};
 use oracle::command::Command;
+use rnic::raw::{call, kind, rnic_c_call, rnic_c_held, rnic_c_offer, rnic_c_receive};
+use rnic::raw::{Arguments, Words, DEVICE_WORDS};
 
 use super::Calls;
 
@@ -178,6 +178,7 @@ pub fn encode(command: &Command) -> Option<(u64, Arguments, &[u8])> {
         Command::Receive { stream, .. } => (9, vec![*stream]),
         Command::Tick(domain) => (10, vec![*domain]),
         Command::Reading(domain) => (11, vec![*domain]),
+        Command::State(stream) => (12, vec![*stream]),
         _ => return None,
     };
     let mut arguments = [0; 9];
@@ -223,6 +224,20 @@ fn line(command: &Command, words: Words) -> String {
         ([12, 0, 0, 0, 0, 0, 0, 0], _) => String::from("quiet"),
         ([13, level, 0, 0, 0, 0, 0, 0], _) => format!("steady {level:016x}"),
         ([14, level, peak, 0, 0, 0, 0, 0], _) => format!("falling {level:016x} {peak:016x}"),
+        ([15, ..], _) => state(words),
         (words, _) => format!("{words:?}"),
+    }
+}
+
+/// Writes the words that tell a stream's state: which it is, buffers, reads, and what ended it.
+fn state(words: Words) -> String {
+    match words {
+        [15, 0, 0, 0, 0, 0, 0, 0] => String::from("state closed"),
+        [15, 1, buffers, reads, 0, 0, 0, 0] => format!("state open {buffers} {reads}"),
+        [15, 2, buffers, reads, n, a, b, c] => {
+            format!("state ended {n} {a}/{b}/{c:02X} {buffers} {reads}")
+        }
+        [15, 3, buffers, reads, 0, 0, 0, 0] => format!("state terminated {buffers} {reads}"),
+        words => format!("{words:?}"),
     }
 }

@@ -26,12 +26,6 @@ first-state-requires c κs = search needs
 loop-holds : tie.Need-loop-holds Inv-loop μ-loop
 loop-holds c = search needs
 
-read-chunk-requires : tie.Need-read-chunk-requires Inv-loop μ-loop
-read-chunk-requires c κs = search needs
-
-say-failed-requires : tie.Need-say-failed-requires Inv-loop μ-loop
-say-failed-requires c κs = search needs
-
 same-length : tie.Need-same-length Inv-loop μ-loop
 same-length c = search needs
 
@@ -59,8 +53,11 @@ same-length-8 c = search needs
 returns : tie.Need-returns Inv-loop μ-loop
 returns c = search needs
 
-run-rest-requires : tie.Need-run-rest-requires Inv-loop μ-loop
-run-rest-requires c κs = search needs
+read-chunk-requires : tie.Need-read-chunk-requires Inv-loop μ-loop
+read-chunk-requires c κs = search needs
+
+say-failed-requires : tie.Need-say-failed-requires Inv-loop μ-loop
+say-failed-requires c κs = search needs
 
 same-length-9 : tie.Need-same-length-9 Inv-loop μ-loop
 same-length-9 c = search needs
@@ -89,23 +86,8 @@ same-length-16 c = search needs
 returns-2 : tie.Need-returns-2 Inv-loop μ-loop
 returns-2 c = search needs
 
-slice-reshare-prefix-take-chunk : tie.Need-slice-reshare-prefix-take-chunk Inv-loop μ-loop
-slice-reshare-prefix-take-chunk c = search needs
-
-slice-aggregate-take-chunk : tie.Need-slice-aggregate-take-chunk Inv-loop μ-loop
-slice-aggregate-take-chunk c = search needs
-
-take-chunk-requires : tie.Need-take-chunk-requires Inv-loop μ-loop
-take-chunk-requires c κs = search needs
-
-sub-turns : tie.Need-sub-turns Inv-loop μ-loop
-sub-turns c = search needs
-
-loop-less : tie.Need-loop-less Inv-loop μ-loop
-loop-less c = search needs
-
-loop-again : tie.Need-loop-again Inv-loop μ-loop
-loop-again c = search needs
+run-rest-requires : tie.Need-run-rest-requires Inv-loop μ-loop
+run-rest-requires c κs = search needs
 
 same-length-17 : tie.Need-same-length-17 Inv-loop μ-loop
 same-length-17 c = search needs
@@ -134,6 +116,58 @@ same-length-24 c = search needs
 returns-3 : tie.Need-returns-3 Inv-loop μ-loop
 returns-3 c = search needs
 
+slice-reshare-prefix-take-chunk : tie.Need-slice-reshare-prefix-take-chunk Inv-loop μ-loop
+slice-reshare-prefix-take-chunk c = search needs
+
+slice-aggregate-take-chunk : tie.Need-slice-aggregate-take-chunk Inv-loop μ-loop
+slice-aggregate-take-chunk c = search needs
+
+take-chunk-requires : tie.Need-take-chunk-requires Inv-loop μ-loop
+take-chunk-requires c κs = search needs
+
+sub-turns : tie.Need-sub-turns Inv-loop μ-loop
+sub-turns c =
+    let t = c .before .before .before .before .before .before .before .before .before .before .before .before .before .before .before .before .before .before .before .before .before .before .before .before .before .before .before .before .before .before .before .before .before .loop-test .taken in
+    search needs
+
+loop-less : tie.Need-loop-less Inv-loop μ-loop
+loop-less c =
+    let t = c .before .before .before .before .before .before .before .before .before .before .before .before .before .before .before .before .before .before .before .before .before .before .before .before .before .before .before .before .before .before .before .before .before .loop-test .taken in
+    search needs
+
+loop-again : tie.Need-loop-again Inv-loop μ-loop
+loop-again c =
+    let v = c .before .before .before .before .before .before .before .before .before .before .before .before .before .before .before .before .before .before .before .before .before .before .before .before .before .before .before .before .before .before .before .before .before .before .loop .inv in
+    let k = c .before .before .before .before .before .before .before .before .before .before .before .before .before .before .before .before .before .before .before .before .before .before .before .before .before .before .before .before .before .before .read-chunk .kept in
+    search needs
+
+same-length-25 : tie.Need-same-length-25 Inv-loop μ-loop
+same-length-25 c = search needs
+
+same-length-26 : tie.Need-same-length-26 Inv-loop μ-loop
+same-length-26 c = search needs
+
+same-length-27 : tie.Need-same-length-27 Inv-loop μ-loop
+same-length-27 c = search needs
+
+same-length-28 : tie.Need-same-length-28 Inv-loop μ-loop
+same-length-28 c = search needs
+
+same-length-29 : tie.Need-same-length-29 Inv-loop μ-loop
+same-length-29 c = search needs
+
+same-length-30 : tie.Need-same-length-30 Inv-loop μ-loop
+same-length-30 c = search needs
+
+same-length-31 : tie.Need-same-length-31 Inv-loop μ-loop
+same-length-31 c = search needs
+
+same-length-32 : tie.Need-same-length-32 Inv-loop μ-loop
+same-length-32 c = search needs
+
+returns-4 : tie.Need-returns-4 Inv-loop μ-loop
+returns-4 c = search needs
+
 pub run-script-spec : {M : Type 1} → statement M
 run-script-spec =
     tie.close
@@ -142,8 +176,6 @@ run-script-spec =
     μ-loop
     first-state-requires
     loop-holds
-    read-chunk-requires
-    say-failed-requires
     same-length
     same-length-2
     same-length-3
@@ -153,7 +185,8 @@ run-script-spec =
     same-length-7
     same-length-8
     returns
-    run-rest-requires
+    read-chunk-requires
+    say-failed-requires
     same-length-9
     same-length-10
     same-length-11
@@ -163,12 +196,7 @@ run-script-spec =
     same-length-15
     same-length-16
     returns-2
-    slice-reshare-prefix-take-chunk
-    slice-aggregate-take-chunk
-    take-chunk-requires
-    sub-turns
-    loop-less
-    loop-again
+    run-rest-requires
     same-length-17
     same-length-18
     same-length-19
@@ -177,4 +205,19 @@ run-script-spec =
     same-length-22
     same-length-23
     same-length-24
-    returns-3)
+    returns-3
+    slice-reshare-prefix-take-chunk
+    slice-aggregate-take-chunk
+    take-chunk-requires
+    sub-turns
+    loop-less
+    loop-again
+    same-length-25
+    same-length-26
+    same-length-27
+    same-length-28
+    same-length-29
+    same-length-30
+    same-length-31
+    same-length-32
+    returns-4)

@@ -11,9 +11,9 @@ use Rattle.replay.proofs.input.take_chunk.Statement.{statement}
 use Rattle.replay.proofs.input.take_chunk.Tie as tie
 
 abbrev Inv-loop : tie.InvT-loop
-Inv-loop device₀ message₀ held₀ chunk line₀ bytes₀ frame₀ store₀ rooms₀ text₀ out₀ run₀ count₀ i₀ device message held line bytes frame store rooms text out run count i =
+Inv-loop device₀ message₀ held₀ chunk line₀ bytes₀ frame₀ store₀ rooms₀ text₀ out₀ told₀ count₀ i₀ device message held line bytes frame store rooms text out told count i =
     (i ≤ length chunk)
-    × (run .gathered ≤ length out)
+    × (told .gathered ≤ length out)
     × (length held ≡ length held₀)
     × (length line ≡ length line₀)
     × (length bytes ≡ length bytes₀)
@@ -23,7 +23,7 @@ Inv-loop device₀ message₀ held₀ chunk line₀ bytes₀ frame₀ store₀ r
     × (length out ≡ length out₀)
 
 abbrev μ-loop : tie.MeasureT-loop
-μ-loop device₀ message₀ held₀ chunk line₀ bytes₀ frame₀ store₀ rooms₀ text₀ out₀ run₀ count₀ i₀ device message held line bytes frame store rooms text out run count i =
+μ-loop device₀ message₀ held₀ chunk line₀ bytes₀ frame₀ store₀ rooms₀ text₀ out₀ told₀ count₀ i₀ device message held line bytes frame store rooms text out told count i =
     length chunk - i
 
 loop-holds : tie.Need-loop-holds Inv-loop μ-loop
@@ -53,8 +53,8 @@ add-i c =
     let w = end-within _ _ _ (c .before .before .before .before .before .before .before .loop-test .taken) (c .before .before .before .before .before .before .line-end .ensures) in
     search needs
 
-run-line-requires : tie.Need-run-line-requires Inv-loop μ-loop
-run-line-requires c κs = search needs
+run-told-requires : tie.Need-run-told-requires Inv-loop μ-loop
+run-told-requires c κs = search needs
 
 loop-less : tie.Need-loop-less Inv-loop μ-loop
 loop-less c =
@@ -114,7 +114,7 @@ take-chunk-spec =
     part-add-bytes-end
     add-bytes-requires
     add-i
-    run-line-requires
+    run-told-requires
     loop-less
     loop-again
     flush-requires
