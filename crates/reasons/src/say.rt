@@ -12,7 +12,7 @@ ghost use lib.ListN.{length};
 const SHOWN: usize = 32;
 
 // Puts more bytes, and answers the place after them.
-pub fn add(bytes: &[u8], text: &mut [u8], at: usize) -> usize
+pub(crate) fn add(bytes: &[u8], text: &mut [u8], at: usize) -> usize
     requires { ⌜ at ≤ length (now text) ⌝ }
     ensures { λ r. ⌜ r ≤ length (now (text .entry)) ⌝ }
 {
@@ -28,7 +28,7 @@ fn add_number(v: u64, text: &mut [u8], at: usize) -> usize
 }
 
 // How each reason starts: the program, and the number of the line.
-pub fn start(number: u64, text: &mut [u8]) -> usize
+pub(crate) fn start(number: u64, text: &mut [u8]) -> usize
     ensures { λ r. ⌜ r ≤ length (now (text .entry)) ⌝ }
 {
     let at = add(b"replay: line ", text, 0);
@@ -37,7 +37,7 @@ pub fn start(number: u64, text: &mut [u8]) -> usize
 }
 
 // Puts what stands at a place of the line, which is counted from 1.
-pub fn place(what: &[u8], i: usize, text: &mut [u8], at: usize) -> usize
+pub(crate) fn place(what: &[u8], i: usize, text: &mut [u8], at: usize) -> usize
     requires { ⌜ at ≤ length (now text) ⌝ }
     ensures { λ r. ⌜ r ≤ length (now (text .entry)) ⌝ }
 {
@@ -50,7 +50,7 @@ pub fn place(what: &[u8], i: usize, text: &mut [u8], at: usize) -> usize
 }
 
 // Puts a word in quotes; of a long one its first bytes.
-pub fn quoted(w: &[u8], text: &mut [u8], at: usize) -> usize
+pub(crate) fn quoted(w: &[u8], text: &mut [u8], at: usize) -> usize
     requires { ⌜ at ≤ length (now text) ⌝ }
     ensures { λ r. ⌜ r ≤ length (now (text .entry)) ⌝ }
 {
@@ -120,7 +120,7 @@ fn shown(line: &[u8], words: Words, kinds: &[u8], least: usize, text: &mut [u8],
 
 // Puts the reason of a line that has the name of a command: what its words show, and then what the command
 // takes, which is all that is said where they show nothing.
-pub fn tell(
+pub(crate) fn tell(
     line: &[u8],
     words: Words,
     kinds: &[u8],

@@ -8,7 +8,7 @@ ghost use Prim.Native.Nat.{_≤_};
 ghost use lib.ListN.{length};
 
 // The commands that open and close, and those that ask a number of the device.
-pub fn of_device(line: &[u8], words: Words, text: &mut [u8], at: usize) -> usize
+pub(crate) fn of_device(line: &[u8], words: Words, text: &mut [u8], at: usize) -> usize
     requires { ⌜ at ≤ length (now text) ⌝ }
     ensures { λ r. ⌜ r ≤ length (now (text .entry)) ⌝ }
 {
@@ -62,7 +62,7 @@ pub fn of_device(line: &[u8], words: Words, text: &mut [u8], at: usize) -> usize
 }
 
 // The commands on windows, on buffers, on Read Requests and on gauges.
-pub fn of_windows(line: &[u8], words: Words, text: &mut [u8], at: usize) -> usize
+pub(crate) fn of_windows(line: &[u8], words: Words, text: &mut [u8], at: usize) -> usize
     requires { ⌜ at ≤ length (now text) ⌝ }
     ensures { λ r. ⌜ r ≤ length (now (text .entry)) ⌝ }
 {
@@ -105,7 +105,7 @@ pub fn of_windows(line: &[u8], words: Words, text: &mut [u8], at: usize) -> usiz
 }
 
 // The commands that bring bytes to the device, and that show and set those of the store.
-pub fn of_store(line: &[u8], words: Words, text: &mut [u8], at: usize) -> usize
+pub(crate) fn of_store(line: &[u8], words: Words, text: &mut [u8], at: usize) -> usize
     requires { ⌜ at ≤ length (now text) ⌝ }
     ensures { λ r. ⌜ r ≤ length (now (text .entry)) ⌝ }
 {
@@ -158,7 +158,7 @@ pub fn of_store(line: &[u8], words: Words, text: &mut [u8], at: usize) -> usize
 }
 
 // The commands on frames, but for the writer of startup frames of revision 2.
-pub fn of_frames(line: &[u8], words: Words, text: &mut [u8], at: usize) -> usize
+pub(crate) fn of_frames(line: &[u8], words: Words, text: &mut [u8], at: usize) -> usize
     requires { ⌜ at ≤ length (now text) ⌝ }
     ensures { λ r. ⌜ r ≤ length (now (text .entry)) ⌝ }
 {
@@ -318,7 +318,7 @@ fn of_crc(line: &[u8], words: Words, text: &mut [u8], at: usize) -> usize
 }
 
 // The commands on messages and on CRCs, and those that have two lengths.
-pub fn of_sums(line: &[u8], words: Words, text: &mut [u8], at: usize) -> usize
+pub(crate) fn of_sums(line: &[u8], words: Words, text: &mut [u8], at: usize) -> usize
     requires { ⌜ at ≤ length (now text) ⌝ }
     ensures { λ r. ⌜ r ≤ length (now (text .entry)) ⌝ }
 {
