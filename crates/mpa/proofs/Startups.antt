@@ -17,6 +17,10 @@ use Rattle.wire.specs.declared.Written.{Written}
 use Rattle.wire.specs.declared.Written.the-variants.{Length, Refused as NotWritten}
 use Rattle.mpa.specs.declared.StartupRead.the-variants.{Wait, Refused, Taken}
 
+-- what `same` says of the key at hand it says of the key expected
+pub key-test : (bytes key expected : List ℕ) (r t : Bool) → key ≡ expected → r ≡ same (take 16 bytes) key → r ≡ t → same (take 16 bytes) expected ≡ t
+key-test bytes key expected r t k e h = ap (λ (x : List ℕ). same (take 16 bytes) x) (sym k) ∙ sym e ∙ h
+
 -- the flags that are written are read back, and ask for no markers
 flags-read : (c r : Bool) → (flagM (flagsOf c r) ≡ false) × (flagC (flagsOf c r) ≡ c) × (flagR (flagsOf c r) ≡ r)
 flags-read true true = (refl, refl, refl)

@@ -1,22 +1,15 @@
 -- `head_right` meets its contract: key, revision and length, each asked where those before it are right.
 use Prim.Native.Nat.{ℕ}
-use mathlib.Core.List.{List}
-use mathlib.Core.Bool.{Bool}
-use mathlib.Core.Path.{_≡_, sym, ap, _∙_}
+use mathlib.Core.Path.{sym, ap}
 use native.Mathlib.Omega.{arith}
 use lib.Dec.{leb}
-use lib.ListN.{take}
 use lib.Seq.{length-take-le}
 use borrow.Author.Tests.{eq-eqb, ne-eqb}
 use borrow.Author.Needs.{needs}
-use Rattle.wire.specs.Wire.{same}
 use Rattle.mpa.specs.Startup.{maxPrivate}
+use Rattle.mpa.proofs.Startups.{key-test}
 use Rattle.mpa.proofs.startup.head_right.Statement.{statement}
 use Rattle.mpa.proofs.startup.head_right.Tie as tie
-
--- what `same` says of the key at hand it says of the key expected
-key-test : (bytes key expected : List ℕ) (r t : Bool) → key ≡ expected → r ≡ same (take 16 bytes) key → r ≡ t → same (take 16 bytes) expected ≡ t
-key-test bytes key expected r t k e h = ap (λ (x : List ℕ). same (take 16 bytes) x) (sym k) ∙ sym e ∙ h
 
 key-of-requires : tie.Need-key-of-requires
 key-of-requires c κs = search needs

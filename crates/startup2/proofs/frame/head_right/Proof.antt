@@ -5,19 +5,16 @@ use mathlib.Core.Bool.{Bool}
 use mathlib.Core.Path.{_≡_, sym, ap, _∙_}
 use native.Mathlib.Omega.{arith}
 use lib.Dec.{leb}
-use lib.ListN.{take, getD}
+use lib.ListN.{getD}
 use lib.Seq.{length-take-le}
 use borrow.Author.Tests.{le-leb, lt-leb}
 use borrow.Author.Needs.{needs}
-use Rattle.wire.specs.Wire.{same, be16At}
+use Rattle.wire.specs.Wire.{be16At}
 use Rattle.mpa.specs.Startup.{maxPrivate}
+use Rattle.mpa.proofs.Startups.{key-test}
 use Rattle.startup2.specs.Frame.{termsThere}
 use Rattle.startup2.proofs.frame.head_right.Statement.{statement}
 use Rattle.startup2.proofs.frame.head_right.Tie as tie
-
--- what `same` says of the key at hand it says of the key expected
-key-test : (bytes key expected : List ℕ) (r t : Bool) → key ≡ expected → r ≡ same (take 16 bytes) key → r ≡ t → same (take 16 bytes) expected ≡ t
-key-test bytes key expected r t k e h = ap (λ (x : List ℕ). same (take 16 bytes) x) (sym k) ∙ sym e ∙ h
 
 -- what the limit says of the length at hand
 within : (bytes : List ℕ) (n : ℕ) {t : Bool} → n ≡ be16At bytes 18 → leb n maxPrivate ≡ t → leb (be16At bytes 18) maxPrivate ≡ t
