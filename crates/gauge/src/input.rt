@@ -27,14 +27,19 @@ fn read_chunk(chunk: &mut [u8]) -> Chunk
     }
 }
 
-// Writes the first `count` bytes of the answers, and says so where that fails.
-fn write_out(out: &[u8], count: usize)
+// The descriptor on which `./gauge`, the wrapper, hears that something failed: a program has no exit status.
+const FAILED: i32 = 3;
+
+// Writes the first `count` bytes of the answers, says so where that fails, and answers whether it did.
+fn write_out(out: &[u8], count: usize) -> bool
     requires { ⌜ count ≤ length (now out) ⌝ }
 {
     if io::write_all(STDOUT_FILENO, &out[..count]) {
-        return;
+        return false;
     }
     io::write_all(STDERR_FILENO, b"gauge: an answer could not be written\n");
+    io::write_all(FAILED, b"write\n");
+    true
 }
 
 // Answers the whole input. A proved loop has to end, and nothing says that the input does: so the loop
@@ -48,6 +53,7 @@ pub fn run_input(chunk: &mut [u8], out: &mut [u8])
         let got = read_chunk(chunk);
         if got.failed {
             io::write_all(STDERR_FILENO, b"gauge: the input could not be read\n");
+            io::write_all(FAILED, b"read\n");
             return;
         }
         let n = got.count;
@@ -57,7 +63,9 @@ pub fn run_input(chunk: &mut [u8], out: &mut [u8])
             return;
         }
         let step = take_chunk(state, &chunk[..n], out);
-        write_out(out, step.count);
+        if write_out(out, step.count) {
+            return;
+        }
         state = step.state;
         turns -= 1;
     }

@@ -8,10 +8,10 @@ use Rattle.gauge.proofs.input.run_input.Statement.{statement}
 use Rattle.gauge.proofs.input.run_input.Tie as tie
 
 abbrev Inv-loop : tie.InvT-loop
-Inv-loop chunk₀ out₀ turns₀ state₀ t9 chunk out turns state = (length chunk ≡ length chunk₀) × (length out ≡ length out₀)
+Inv-loop chunk₀ out₀ turns₀ state₀ t9 t10 chunk out turns state = (length chunk ≡ length chunk₀) × (length out ≡ length out₀)
 
 abbrev μ-loop : tie.MeasureT-loop
-μ-loop chunk₀ out₀ turns₀ state₀ t9 chunk out turns state = turns
+μ-loop chunk₀ out₀ turns₀ state₀ t9 t10 chunk out turns state = turns
 
 start-requires : tie.Need-start-requires Inv-loop μ-loop
 start-requires c κs = search needs
@@ -27,6 +27,12 @@ slice-aggregate-write-all c = search needs
 
 write-all-requires : tie.Need-write-all-requires Inv-loop μ-loop
 write-all-requires c κs = search needs
+
+slice-aggregate-write-all-2 : tie.Need-slice-aggregate-write-all-2 Inv-loop μ-loop
+slice-aggregate-write-all-2 c = search needs
+
+write-all-requires-2 : tie.Need-write-all-requires-2 Inv-loop μ-loop
+write-all-requires-2 c κs = search needs
 
 same-length : tie.Need-same-length Inv-loop μ-loop
 same-length c = search needs
@@ -64,6 +70,15 @@ take-chunk-requires c κs = search needs
 write-out-requires-2 : tie.Need-write-out-requires-2 Inv-loop μ-loop
 write-out-requires-2 c κs = search needs
 
+same-length-5 : tie.Need-same-length-5 Inv-loop μ-loop
+same-length-5 c = search needs
+
+same-length-6 : tie.Need-same-length-6 Inv-loop μ-loop
+same-length-6 c = search needs
+
+returns-3 : tie.Need-returns-3 Inv-loop μ-loop
+returns-3 c = search needs
+
 sub-turns : tie.Need-sub-turns Inv-loop μ-loop
 sub-turns c = search needs
 
@@ -73,14 +88,14 @@ loop-less c = search needs
 loop-again : tie.Need-loop-again Inv-loop μ-loop
 loop-again c = search needs
 
-same-length-5 : tie.Need-same-length-5 Inv-loop μ-loop
-same-length-5 c = search needs
+same-length-7 : tie.Need-same-length-7 Inv-loop μ-loop
+same-length-7 c = search needs
 
-same-length-6 : tie.Need-same-length-6 Inv-loop μ-loop
-same-length-6 c = search needs
+same-length-8 : tie.Need-same-length-8 Inv-loop μ-loop
+same-length-8 c = search needs
 
-returns-3 : tie.Need-returns-3 Inv-loop μ-loop
-returns-3 c = search needs
+returns-4 : tie.Need-returns-4 Inv-loop μ-loop
+returns-4 c = search needs
 
 pub run-input-spec : {M : Type 1} → statement M
 run-input-spec =
@@ -93,6 +108,8 @@ run-input-spec =
     read-chunk-requires
     slice-aggregate-write-all
     write-all-requires
+    slice-aggregate-write-all-2
+    write-all-requires-2
     same-length
     same-length-2
     returns
@@ -105,9 +122,12 @@ run-input-spec =
     slice-aggregate-take-chunk
     take-chunk-requires
     write-out-requires-2
+    same-length-5
+    same-length-6
+    returns-3
     sub-turns
     loop-less
     loop-again
-    same-length-5
-    same-length-6
-    returns-3)
+    same-length-7
+    same-length-8
+    returns-4)

@@ -20,6 +20,12 @@ slice-aggregate-write-all-2 c = search needs
 write-all-requires-2 : tie.Need-write-all-requires-2
 write-all-requires-2 c κs = search needs
 
+slice-aggregate-write-all-3 : tie.Need-slice-aggregate-write-all-3
+slice-aggregate-write-all-3 c = search needs
+
+write-all-requires-3 : tie.Need-write-all-requires-3
+write-all-requires-3 c κs = search needs
+
 returns-2 : tie.Need-returns-2
 returns-2 c = search needs
 
@@ -32,4 +38,6 @@ write-out-spec =
     returns
     slice-aggregate-write-all-2
     write-all-requires-2
+    slice-aggregate-write-all-3
+    write-all-requires-3
     returns-2)
