@@ -6,5 +6,6 @@ mod files;
 mod misbehaving;
 mod pack;
 mod real;
+mod sixteen;
 mod startup;
 mod support;

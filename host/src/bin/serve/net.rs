@@ -19,8 +19,10 @@ use crate::sys::{self, Waited, READABLE, WRITABLE};
 
 use connection::Connection;
 
-/// Bytes that are read at once.
-const READ: usize = 64 * 1024;
+/// The most bytes that are read in a round of all connections, but for `LEAST` of each.
+const ROUND: usize = 256 * 1024;
+/// As many bytes of each connection are read at once, however many there are.
+const LEAST: usize = 64 * 1024;
 /// The most connections of a domain that may have no stream; with one more, the oldest of them is closed.
 const STARTING: usize = 64;
 /// The most connections that are accepted in one round.
@@ -75,7 +77,7 @@ impl Net {
             accepted: 0,
             capture: None,
             rates: Rates::new(),
-            buffer: vec![0; READ],
+            buffer: vec![0; ROUND],
         })
     }
 
@@ -171,10 +173,12 @@ impl Net {
 
     /// Reads from each connection that has something, once, and writes to each that can be written to.
     fn serve_connections(&mut self, waited: &[Waited]) {
+        let readable = waited.iter().filter(|one| one.is_readable()).count();
+        let share = (ROUND / readable.max(1)).max(LEAST);
         for (connection, waited) in self.connections.iter_mut().zip(waited) {
             if waited.is_readable() {
-                let capture = self.capture.as_mut();
-                connection.read(&mut self.buffer, &mut self.engine, capture, &mut self.log);
+                let (buffer, capture) = (&mut self.buffer[..share], self.capture.as_mut());
+                connection.read(buffer, &mut self.engine, capture, &mut self.log);
             }
             if connection.over.is_none() && !connection.out.is_empty() {
                 connection.write(self.capture.as_mut());

@@ -1,25 +1,42 @@
-//! The other driver, which was measured and not chosen: a thread a connection, and the device behind one lock.
+//! The drivers that were measured and not chosen: a thread a connection, and the device behind one lock, which is had by who comes
+//! by, or in turn.
 
 use std::io::{Read, Write};
-use std::net::{TcpListener, TcpStream};
-use std::sync::atomic::{AtomicBool, Ordering};
-use std::sync::{Arc, Mutex};
-use std::thread;
+use std::net::TcpStream;
+use std::sync::{Mutex, PoisonError};
 
+use super::turns::Turns;
 use crate::engine::{Engine, Next, Peer};
 use crate::log::Log;
 
+/// What a thread works on.
+type Work = Box<(Engine, Log)>;
+
 /// The engine that all threads have in common.
-#[derive(Clone)]
-pub struct Shared {
-    engine: Arc<Mutex<(Engine, Log)>>,
+pub enum Shared {
+    ComeBy(Mutex<Work>),
+    InTurn(Turns<Work>),
 }
 
 impl Shared {
     /// Puts an engine behind a lock.
-    pub fn new(engine: Engine) -> Self {
-        Shared {
-            engine: Arc::new(Mutex::new((engine, Log::nowhere()))),
+    pub fn new(engine: Engine, in_turn: bool) -> Self {
+        let work = Box::new((engine, Log::nowhere()));
+        match in_turn {
+            false => Shared::ComeBy(Mutex::new(work)),
+            true => Shared::InTurn(Turns::new(work)),
+        }
+    }
+
+    /// Waits for the lock, and works.
+    fn with<R>(&self, work: impl FnOnce(&mut Engine, &mut Log) -> R) -> R {
+        let work = |held: &mut Work| {
+            let (engine, log) = &mut **held;
+            work(engine, log)
+        };
+        match self {
+            Shared::ComeBy(lock) => work(&mut lock.lock().unwrap_or_else(PoisonError::into_inner)),
+            Shared::InTurn(lock) => lock.with(work),
         }
     }
 
@@ -30,37 +47,13 @@ impl Shared {
         let mut out = Vec::new();
         let _ = socket.set_nodelay(true);
         while let Ok(count @ 1..) = socket.read(&mut buffer) {
-            let Ok(mut held) = self.engine.lock() else {
-                return;
-            };
-            let (engine, log) = &mut *held;
-            let next = engine.feed(&mut peer, &buffer[..count], &mut out, log);
-            drop(held);
+            let bytes = &buffer[..count];
+            let next = self.with(|engine, log| engine.feed(&mut peer, bytes, &mut out, log));
             if socket.write_all(&out).is_err() || next != Next::Go {
                 break;
             }
             out.clear();
         }
-        if let Ok(mut held) = self.engine.lock() {
-            let (engine, log) = &mut *held;
-            engine.close(&mut peer, "by the peer", log);
-        }
+        self.with(|engine, log| engine.close(&mut peer, "by the peer", log));
     }
-}
-
-/// Gives each connection a thread, until the mark is set and one more comes.
-pub fn accept(
-    listener: &TcpListener,
-    end: &AtomicBool,
-    serve: impl Fn(TcpStream) + Send + Sync + Clone,
-) {
-    thread::scope(|scope| {
-        while let Ok((socket, _)) = listener.accept() {
-            if end.load(Ordering::SeqCst) {
-                return;
-            }
-            let serve = serve.clone();
-            scope.spawn(move || serve(socket));
-        }
-    });
 }
