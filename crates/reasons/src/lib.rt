@@ -1,10 +1,8 @@
 // Why a line of a script is answered `bad`, in words for the one who wrote it.
 //
-// Read `fault::Fault` first, then `explain`. `look` finds a byte that no command has, `fault` says what a
-// word is not, `usage` has the words that each command takes, and `say` puts a reason together. A reason
-// is only looked for where a line is `bad` already: nothing here decides what is.
-use crate::look::Look;
-use crate::look::look_at;
+// Read `explain` first. The crate `faults` finds a byte that no command has, and what a word is not;
+// `usage` has the words that each command takes, and `say` puts a reason together. A reason is only looked
+// for where a line is `bad` already: nothing here decides what is.
 use crate::say::add;
 use crate::say::place;
 use crate::say::quoted;
@@ -17,11 +15,11 @@ use crate::usage::of_windows;
 use command::args::Words;
 use command::args::split;
 use command::args::word;
+use faults::look::Look;
+use faults::look::look_at;
 ghost use Prim.Native.Nat.{_≤_};
 ghost use lib.ListN.{length};
 
-pub mod fault;
-pub mod look;
 mod say;
 mod usage;
 

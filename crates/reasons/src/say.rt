@@ -1,8 +1,8 @@
 // A reason, put together in a lent buffer. What does not fit into it is left out.
-use crate::fault::Fault;
-use crate::fault::find_fault;
 use command::args::Words;
 use command::args::word;
+use faults::fault::Fault;
+use faults::fault::find_fault;
 use script::number::put_number;
 use script::put::put_word;
 ghost use Prim.Native.Nat.{_≤_};

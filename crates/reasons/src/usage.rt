@@ -1,4 +1,4 @@
-// What each command takes: a letter of `fault` for each word after its name, the fewest of them that it can
+// What each command takes: a letter of `faults` for each word after its name, the fewest of them that it can
 // do with, and the text. Each function answers `at` where the line's first word is none of its names.
 use crate::say::tell;
 use command::args::Words;

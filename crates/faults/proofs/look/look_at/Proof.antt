@@ -2,9 +2,9 @@
 use mathlib.Core.Path.{sym, _∙_}
 use borrow.Author.Needs.{needs}
 use borrow.Author.Tests.{le-leb, lt-leb, eq-eqb, ne-eqb}
-use Rattle.reasons.specs.Look.{lookOf}
-use Rattle.reasons.proofs.look.look_at.Statement.{statement}
-use Rattle.reasons.proofs.look.look_at.Tie as tie
+use Rattle.faults.specs.Look.{lookOf}
+use Rattle.faults.proofs.look.look_at.Statement.{statement}
+use Rattle.faults.proofs.look.look_at.Tie as tie
 
 ends-in-cr-requires : tie.Need-ends-in-cr-requires
 ends-in-cr-requires c κs = search needs

@@ -6,9 +6,9 @@ use lib.ListN.{length}
 use Rattle.script.specs.Number.{between}
 use Rattle.script.specs.Word.{past}
 use Rattle.script.proofs.Scan.{stay, stop, none}
-use Rattle.reasons.proofs.Between.{below, above, inside}
-use Rattle.reasons.proofs.look.past_between.Statement.{statement}
-use Rattle.reasons.proofs.look.past_between.Tie as tie
+use Rattle.faults.proofs.Between.{below, above, inside}
+use Rattle.faults.proofs.look.past_between.Statement.{statement}
+use Rattle.faults.proofs.look.past_between.Tie as tie
 
 abbrev Inv-loop : tie.InvT-loop
 Inv-loop bytes low high i₀ i = past (between low high) bytes 0 ≡ past (between low high) bytes i

@@ -13,8 +13,8 @@ use Rattle.script.specs.declared.hex.HexLength.{HexLength}
 use Rattle.script.specs.declared.number.Number.{Number}
 use Rattle.command.specs.Args.{flagOf, wordOf}
 use Rattle.command.specs.declared.args.Flag.{Flag}
-use Rattle.reasons.specs.declared.fault.Fault.{Fault}
-use Rattle.reasons.specs.declared.fault.Found.{Found}
+use Rattle.faults.specs.declared.fault.Fault.{Fault}
+use Rattle.faults.specs.declared.fault.Found.{Found}
 
 -- a word that is no number has a byte that is no digit, or stands for one over 2^64 - 1
 abbrev pub numberFaultOf : Number → List ℕ → Fault

@@ -1,11 +1,11 @@
 -- `word_fault` meets its contract: each `return` rewrites with the letters that led there.
 use mathlib.Core.Path.{ap, _∙_}
 use borrow.Author.Tests.{eq-eqb, ne-eqb}
-use Rattle.reasons.specs.Fault.{flagFault, faultOf}
-use Rattle.reasons.specs.declared.fault.Fault.{Fault}
+use Rattle.faults.specs.Fault.{flagFault, faultOf}
+use Rattle.faults.specs.declared.fault.Fault.{Fault}
 use borrow.Author.Needs.{needs}
-use Rattle.reasons.proofs.fault.word_fault.Statement.{statement}
-use Rattle.reasons.proofs.fault.word_fault.Tie as tie
+use Rattle.faults.proofs.fault.word_fault.Statement.{statement}
+use Rattle.faults.proofs.fault.word_fault.Tie as tie
 
 number-fault-requires : tie.Need-number-fault-requires
 number-fault-requires c κs = search needs

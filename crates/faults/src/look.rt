@@ -3,7 +3,7 @@
 ghost use mathlib.Core.Path.{_≡_};
 ghost use Rattle.script.specs.Word.{past};
 ghost use Rattle.script.specs.Number.{between};
-ghost use Rattle.reasons.specs.Look.{endsInCr, lookOf};
+ghost use Rattle.faults.specs.Look.{endsInCr, lookOf};
 
 // The last byte is a carriage return; or the first byte that is not printable is a tab, or another, and its
 // place; or there is none.

@@ -2,9 +2,9 @@
 use mathlib.Core.Path.{sym, _∙_}
 use borrow.Author.Needs.{needs}
 use borrow.Author.Tests.{eq-eqb, ne-eqb}
-use Rattle.reasons.specs.Fault.{hexFault}
-use Rattle.reasons.proofs.fault.hex_fault.Statement.{statement}
-use Rattle.reasons.proofs.fault.hex_fault.Tie as tie
+use Rattle.faults.specs.Fault.{hexFault}
+use Rattle.faults.proofs.fault.hex_fault.Statement.{statement}
+use Rattle.faults.proofs.fault.hex_fault.Tie as tie
 
 hex-length-requires : tie.Need-hex-length-requires
 hex-length-requires c κs = search needs

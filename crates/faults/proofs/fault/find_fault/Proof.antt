@@ -6,10 +6,10 @@ use lib.ListN.{length, drop, getD}
 use borrow.Author.Needs.{needs}
 use Rattle.command.specs.Args.{wordsAt, wordOf}
 use Rattle.command.proofs.Listed.{words-count}
-use Rattle.reasons.specs.Fault.{faultOf, isFault, found, foundFrom}
-use Rattle.reasons.proofs.Finding.{all-seen, no-more, here, later}
-use Rattle.reasons.proofs.fault.find_fault.Statement.{statement}
-use Rattle.reasons.proofs.fault.find_fault.Tie as tie
+use Rattle.faults.specs.Fault.{faultOf, isFault, found, foundFrom}
+use Rattle.faults.proofs.Finding.{all-seen, no-more, here, later}
+use Rattle.faults.proofs.fault.find_fault.Statement.{statement}
+use Rattle.faults.proofs.fault.find_fault.Tie as tie
 
 abbrev Inv-loop : tie.InvT-loop
 Inv-loop line words kinds i₀ i =

@@ -10,8 +10,8 @@ use lib.ListN.{length, drop, getD, drop-of-length-le}
 use lib.Seq.{drop-cons}
 use borrow.Author.Tests.{le-leb, lt-leb}
 use Rattle.command.specs.Args.{wordOf}
-use Rattle.reasons.specs.Fault.{faultOf, isFault, found, foundFrom}
-use Rattle.reasons.specs.declared.fault.Fault.{Fault}
+use Rattle.faults.specs.Fault.{faultOf, isFault, found, foundFrom}
+use Rattle.faults.specs.declared.fault.Fault.{Fault}
 
 module _ (kinds : List ℕ) (ws : List (List ℕ)) (i : ℕ) where
   -- every kind is looked at

@@ -2,9 +2,9 @@
 use mathlib.Core.Path.{sym, _∙_}
 use borrow.Author.Needs.{needs}
 use borrow.Author.Tests.{eq-eqb, ne-eqb}
-use Rattle.reasons.specs.Fault.{numberFault}
-use Rattle.reasons.proofs.fault.number_fault.Statement.{statement}
-use Rattle.reasons.proofs.fault.number_fault.Tie as tie
+use Rattle.faults.specs.Fault.{numberFault}
+use Rattle.faults.proofs.fault.number_fault.Statement.{statement}
+use Rattle.faults.proofs.fault.number_fault.Tie as tie
 
 read-number-requires : tie.Need-read-number-requires
 read-number-requires c κs = search needs

@@ -1,9 +1,9 @@
 -- `ends_in_cr` meets its contract, by whether there is a last byte.
 use borrow.Author.Needs.{needs}
 use borrow.Author.Tests.{eq-eqb, ne-eqb}
-use Rattle.reasons.specs.Look.{endsInCr}
-use Rattle.reasons.proofs.look.ends_in_cr.Statement.{statement}
-use Rattle.reasons.proofs.look.ends_in_cr.Tie as tie
+use Rattle.faults.specs.Look.{endsInCr}
+use Rattle.faults.proofs.look.ends_in_cr.Statement.{statement}
+use Rattle.faults.proofs.look.ends_in_cr.Tie as tie
 
 returns : tie.Need-returns
 unfolding endsInCr

@@ -10,7 +10,7 @@ use script::number::Number;
 use script::number::read_number;
 ghost use mathlib.Core.Path.{_≡_};
 ghost use Rattle.command.specs.Args.{wordsAt};
-ghost use Rattle.reasons.specs.Fault.{numberFault, hexFault, crcFault, flagFault, faultOf, isFault, foundOf};
+ghost use Rattle.faults.specs.Fault.{numberFault, hexFault, crcFault, flagFault, faultOf, isFault, foundOf};
 
 // What is wrong with a word: nothing; it is no number, or one over 64 bits; no hex, or an odd count of
 // digits; no CRC; neither `on` nor `off`, neither `req` nor `rep`, neither 0 nor 1, neither `write` nor

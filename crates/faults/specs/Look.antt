@@ -8,7 +8,7 @@ use lib.Dec.{eqb, leb}
 use Rattle.wire.specs.Wire.{pick}
 use Rattle.script.specs.Number.{between}
 use Rattle.script.specs.Word.{past}
-use Rattle.reasons.specs.declared.look.Look.{Look}
+use Rattle.faults.specs.declared.look.Look.{Look}
 
 -- the last byte is a carriage return (13)
 unfoldable pub endsInCr : List ℕ → Bool

@@ -2,9 +2,9 @@
 use mathlib.Core.Path.{sym, _∙_}
 use borrow.Author.Needs.{needs}
 use borrow.Author.Tests.{eq-eqb, ne-eqb}
-use Rattle.reasons.specs.Fault.{crcFault}
-use Rattle.reasons.proofs.fault.crc_fault.Statement.{statement}
-use Rattle.reasons.proofs.fault.crc_fault.Tie as tie
+use Rattle.faults.specs.Fault.{crcFault}
+use Rattle.faults.proofs.fault.crc_fault.Statement.{statement}
+use Rattle.faults.proofs.fault.crc_fault.Tie as tie
 
 returns : tie.Need-returns
 unfolding crcFault
