@@ -1,5 +1,1 @@
 pub mod Answers
-pub mod Gathered
-pub mod Lines
-pub mod Offers
-pub mod Sent

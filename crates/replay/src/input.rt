@@ -1,17 +1,15 @@
 // The script's bytes, read in chunks and parted into lines.
 use super::output::FAILED;
 use super::output::flush;
-use super::run::first_state;
 use super::why::Told;
 use super::why::run_told;
 use holding::gather::ROOMS;
 use libc::STDERR_FILENO;
 use libc::STDIN_FILENO;
+use running::line::add_bytes;
+use running::run::first_state;
 use script::word::line_end;
-ghost use mathlib.Core.Path.{_≡_};
-ghost use lib.ListN.{length};
 ghost use Rattle.io.specs.Counts.{Counts};
-ghost use Rattle.replay.specs.Input.{lineFits, addedCount, addedBytes};
 
 // What one read of the script gives: whether it failed, and how many bytes came, 0 at the end.
 struct Chunk {
@@ -27,29 +25,6 @@ struct Reached {
     reasons: u64,
     count: usize,
     failed: bool,
-}
-
-// Whether a line of `count` bytes and some more fits into `size` bytes.
-fn line_fits(size: usize, count: usize, more: usize) -> bool
-    ensures { λ r. ⌜ r ≡ lineFits size count more ⌝ }
-{
-    if count <= size {
-        return more <= size - count;
-    }
-    false
-}
-
-// Puts more bytes of a line behind its first `count`, and answers how many there are then. Where they
-// do not fit the line is too long: they are not kept, and the count is one more than the buffer holds.
-fn add_bytes(line: &mut [u8], count: usize, more: &[u8]) -> usize
-    ensures next { λ r. ⌜ r ≡ addedCount (length (now (line .entry))) count (length (now (more .entry))) ⌝ }
-    ensures bytes { λ r. ⌜ now (line .exit) ≡ addedBytes (now (line .entry)) count (now (more .entry)) ⌝ }
-{
-    if line_fits(line.len(), count, more.len()) {
-        wire::copy::copy(line, count, more);
-        return count + more.len();
-    }
-    line.len() + 1
 }
 
 // Takes every byte of a chunk, runs each line that it ends, and writes their answers.

@@ -1,19 +1,16 @@
 // Runs a script of commands from standard input, and writes one line for each to standard output.
 //
-// `input` reads the script and parts it into lines, `run` runs one of them, `output` writes the answers, and
-// `why` says on standard error why a line is `bad`, which the crate `reasons` finds.
-// What a line asks is in the crate `request`, what a call is answered in `report`, the commands on messages
-// in `sending`, and those on offers in `offering`, which `offer` runs. Nothing grows with the script: the
-// device, the store, the second slice and every buffer stand in `main` and are lent from there.
+// `input` reads the script and parts it into lines, the crate `running` runs one of them, `output` writes the
+// answers, and `why` says on standard error why a line is `bad`, which the crate `reasons` finds. Nothing
+// grows with the script: the device, the store, the second slice and every buffer stand in `main` and are
+// lent from there.
 ghost use mathlib.Core.Path.{_≡_};
 ghost use lib.ListN.{length};
 ghost use Rattle.rnic.specs.Offer.{roomsBytes};
 use holding::gather::ROOMS;
 
 mod input;
-mod offer;
 mod output;
-mod run;
 mod why;
 
 // The store, of zeros.

@@ -1,11 +1,11 @@
 // Why a line is `bad`, said on standard error. The answers stay on standard output.
 use super::output::flush;
-use super::run::Run;
-use super::run::run_line;
+use super::output::print_answer;
 use holding::gather::ROOMS;
 use libc::STDERR_FILENO;
 use reasons::explain;
 use reasons::explain_long;
+use running::run::run_line;
 use script::put::put_word;
 use wire::copy::same;
 ghost use Prim.Native.Nat.{_≤_};
@@ -14,8 +14,8 @@ ghost use lib.ListN.{length};
 // How many reasons a run gives.
 const MOST: u64 = 100;
 
-// What the lines so far hand on: the LENGTH of the last `open` and how many bytes of answers are gathered, as
-// `Run` has them; how many lines these are, and to how many of them a reason was given.
+// What the lines so far hand on: the LENGTH of the last `open`, and how many bytes of answers are gathered;
+// how many lines these are, and to how many of them a reason was given.
 pub struct Told {
     pub kept: u64,
     pub gathered: usize,
@@ -101,7 +101,7 @@ fn tell_why(told: Told, line: &[u8], count: usize, text: &mut [u8], out: &[u8]) 
     }
 }
 
-// Runs a line, as `run_line` does, and says why it is `bad` where it is.
+// Runs a line, as `run_line` does, gathers its answer, and says why it is `bad` where it is.
 pub fn run_told(
     told: Told,
     device: &mut [u64; 945],
@@ -119,12 +119,8 @@ pub fn run_told(
     requires { ⌜ told .gathered ≤ length (now out) ⌝ }
     ensures { λ r. ⌜ r .gathered ≤ length (now (out .entry)) ⌝ }
 {
-    let run = Run {
-        kept: told.kept,
-        gathered: told.gathered,
-    };
     let ran = run_line(
-        run,
+        told.kept,
         device,
         message,
         held,
@@ -135,11 +131,11 @@ pub fn run_told(
         store,
         rooms,
         text,
-        out,
     );
+    let gathered = print_answer(text, ran.count, out, told.gathered);
     let answered = Told {
         kept: ran.kept,
-        gathered: ran.gathered,
+        gathered,
         lines: told.lines,
         reasons: told.reasons,
     };

@@ -6,7 +6,7 @@ use mathlib.Core.List.{List}
 use native.Mathlib.Omega.{arith}
 use lib.ListN.{length}
 use borrow.Author.Needs.{needs}
-use Rattle.replay.proofs.Gathered.{end-within}
+use Rattle.running.proofs.Gathered.{end-within}
 use Rattle.replay.proofs.input.take_chunk.Statement.{statement}
 use Rattle.replay.proofs.input.take_chunk.Tie as tie
 

@@ -1,0 +1,4 @@
+pub mod Gathered
+pub mod Lines
+pub mod Offers
+pub mod Sent
