@@ -8,7 +8,7 @@ use Rattle.wire.specs.Wire.{part, put}
 use Rattle.memory.specs.Window.{noWindow, windowAt}
 use Rattle.memory.specs.declared.part.Part.{Part}
 use Rattle.memory.specs.declared.window.Window.{Window}
-use Rattle.rdmap.specs.Stream.{inPhase, withSends, withReads, withFraming}
+use Rattle.rdmap.specs.Stream.{inPhase, withSends, withReads, withFraming, noStream}
 use Rattle.rdmap.specs.declared.framing.Framing.{Framing}
 use Rattle.rdmap.specs.declared.phase.Phase.{Phase}
 use Rattle.rdmap.specs.declared.read.Reads.{Reads}
@@ -17,7 +17,7 @@ use Rattle.rdmap.specs.declared.stream.Stream.{Stream}
 use Rattle.rdmap.specs.declared.terminates.Terminates.{Terminates}
 use Rattle.meter.specs.Words.{meterWords, countedWord}
 use Rattle.meter.specs.declared.Meter.{Meter}
-use Rattle.domain.specs.Domain.{noStream, streamAt, withStream, withMeter}
+use Rattle.domain.specs.Domain.{streamAt, withStream, withMeter}
 use Rattle.domain.specs.declared.Domain.{Domain}
 use Rattle.rnic.specs.Rnic.{noDomain, domainAt, withDomain}
 use Rattle.block.specs.Layout.{blockWords, domainOffset, windowOffset, streamOffset, meterOffset, framingOffset, terminatesOffset, sendsOffset, readsOffset}

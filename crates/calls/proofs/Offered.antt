@@ -3,10 +3,10 @@ use Prim.Native.Nat.{ℕ}
 use mathlib.Core.Path.{_≡_, refl}
 use native.Mathlib.Omega.{arith}
 use lib.ListN.{getD}
-use Rattle.domain.specs.declared.Answer.{Answer}
-use Rattle.domain.specs.declared.Answer.the-variants.{Wait, Taken, Ended, Refused}
-use Rattle.domain.specs.declared.Event.{Event}
-use Rattle.domain.specs.declared.Event.the-variants.{NoEvent, Sent, SentInvalidating, Terminated}
+use Rattle.arrival.specs.declared.Answer.{Answer}
+use Rattle.arrival.specs.declared.Answer.the-variants.{Wait, Taken, Ended, Refused}
+use Rattle.arrival.specs.declared.Event.{Event}
+use Rattle.arrival.specs.declared.Event.the-variants.{NoEvent, Sent, SentInvalidating, Terminated}
 use Rattle.holding.specs.Offer.{offerAnswer}
 use Rattle.calls.specs.Words.{answerWords, offerWords, offeredWords}
 

@@ -13,10 +13,10 @@ use Rattle.rdmap.specs.declared.stream.TakeAnswer.the-variants.{Read, Refused a
 use Rattle.rdmap.specs.declared.stream.StateAnswer.{StateAnswer}
 use Rattle.rdmap.specs.declared.stream.StateAnswer.the-variants.{Closed as StateClosed, Open as StateOpen, Ended as StateEnded, Terminated as StateTerminated, Refused as NotStated}
 use Rattle.ddp.specs.declared.refusal.Refusal.{Refusal}
-use Rattle.domain.specs.declared.Event.{Event}
-use Rattle.domain.specs.declared.Event.the-variants.{NoEvent, Sent, SentInvalidating, Terminated}
-use Rattle.domain.specs.declared.Answer.{Answer}
-use Rattle.domain.specs.declared.Answer.the-variants.{Wait, Taken, Ended, Refused}
+use Rattle.arrival.specs.declared.Event.{Event}
+use Rattle.arrival.specs.declared.Event.the-variants.{NoEvent, Sent, SentInvalidating, Terminated}
+use Rattle.arrival.specs.declared.Answer.{Answer}
+use Rattle.arrival.specs.declared.Answer.the-variants.{Wait, Taken, Ended, Refused}
 use Rattle.holding.specs.declared.OfferAnswer.{OfferAnswer}
 use Rattle.holding.specs.declared.OfferAnswer.the-variants.{Kept, Completed, Ended as OfferEnded, Refused as OfferRefused}
 use Rattle.meter.specs.Words.{levelBits}

@@ -17,9 +17,9 @@ ghost use Rattle.calls.specs.Words.{
   tookWords,
   offeredWords,
 };
+use arrival::Answer;
+use arrival::Event;
 use ddp::refusal::Refusal;
-use domain::Answer;
-use domain::Event;
 use memory::part::Outcome;
 use meter::gauge::Reading;
 use meter::words::level_bits;

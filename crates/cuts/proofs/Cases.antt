@@ -21,9 +21,9 @@ use Rattle.rdmap.specs.Read.{emptyReads}
 use Rattle.rdmap.specs.Stream.{closedStream}
 use Rattle.rdmap.specs.Terminates.{emptyTerminates}
 use Rattle.domain.specs.Domain.{domainReceived, domainReceivedBytes}
-use Rattle.domain.specs.Parts.{partsApplied, placedFrom, appliedBytes, partsReceived, partsReceivedBytes}
+use Rattle.arrival.specs.Parts.{partsApplied, placedFrom, appliedBytes, partsReceived, partsReceivedBytes}
 use Rattle.meter.specs.Gauge.{newMeter}
-use Rattle.domain.specs.declared.Event.the-variants.{Sent}
+use Rattle.arrival.specs.declared.Event.the-variants.{Sent}
 use Rattle.cuts.specs.Cuts.{offer, Outcome, drainIn, drain, drainAll, joined, singles}
 use Rattle.cuts.specs.Received.{Side, Report, received}
 use Rattle.cuts.specs.Received.Report.{event, refusal}

@@ -9,10 +9,10 @@ use native.Mathlib.Omega.{arith}
 use lib.ListN.{length}
 use Rattle.mpa.specs.Fpdu.{maxUlpdu, totalOf}
 use Rattle.domain.specs.Domain.{domainReceived}
-use Rattle.domain.specs.declared.Event.{Event}
-use Rattle.domain.specs.declared.Event.the-variants.{Terminated}
-use Rattle.domain.specs.declared.Answer.{Answer}
-use Rattle.domain.specs.declared.Answer.the-variants.{Taken}
+use Rattle.arrival.specs.declared.Event.{Event}
+use Rattle.arrival.specs.declared.Event.the-variants.{Terminated}
+use Rattle.arrival.specs.declared.Answer.{Answer}
+use Rattle.arrival.specs.declared.Answer.the-variants.{Taken}
 use Rattle.cuts.specs.Cuts.{Step, Offered, offerOf, offer, after, drain, drainAll, joined, singles, called}
 use Rattle.cuts.specs.Cuts.Step.{waits, took, ends, refuses}
 use Rattle.cuts.specs.Cuts.Answer.{done, ended, refused}

@@ -40,15 +40,16 @@ use Rattle.rdmap.specs.declared.phase.Readiness.the-variants.{Ready, NotReady}
 use Rattle.rdmap.specs.declared.stream.Stream.{Stream}
 use Rattle.meter.specs.Gauge.{countedMeter}
 use Rattle.meter.specs.declared.Meter.{Meter}
-use Rattle.domain.specs.Domain.{noStream, streamAt, withMeter, segmentCount, metered, meteredOf, domainReceived, domainReceivedBytes}
-use Rattle.domain.specs.Parts.{partsApplied, appliedBytes, partsVerdict, partsJudged, partsPlaced, partsAnswered, partsWhen, partsBytesWhen, partsReceived, partsReceivedBytes, killed, lifted}
+use Rattle.rdmap.specs.Stream.{noStream}
+use Rattle.domain.specs.Domain.{streamAt, withMeter, segmentCount, metered, meteredOf, domainReceived, domainReceivedBytes, lifted}
+use Rattle.arrival.specs.Parts.{partsApplied, appliedBytes, partsVerdict, partsJudged, partsPlaced, partsAnswered, partsWhen, partsBytesWhen, partsReceived, partsReceivedBytes, killed}
 use Rattle.domain.specs.declared.Domain.{Domain}
-use Rattle.domain.specs.declared.Event.the-variants.{NoEvent, Sent, SentInvalidating, Terminated}
-use Rattle.domain.specs.declared.Answer.{Answer}
-use Rattle.domain.specs.declared.Answer.the-variants.{Wait, Taken, Ended, Refused}
-use Rattle.domain.specs.declared.parts.PartsReceived.{PartsReceived}
-use Rattle.domain.proofs.Inside.{segment-inside}
-use Rattle.domain.proofs.Inside.{ends as endOf}
+use Rattle.arrival.specs.declared.Event.the-variants.{NoEvent, Sent, SentInvalidating, Terminated}
+use Rattle.arrival.specs.declared.Answer.{Answer}
+use Rattle.arrival.specs.declared.Answer.the-variants.{Wait, Taken, Ended, Refused}
+use Rattle.arrival.specs.declared.parts.PartsReceived.{PartsReceived}
+use Rattle.arrival.proofs.Inside.{segment-inside}
+use Rattle.arrival.proofs.Inside.{ends as endOf}
 use Rattle.cuts.specs.Cuts.{Step, Holds, Machine}
 use Rattle.cuts.specs.Cuts.Step.{waits, took, ends, refuses}
 use Rattle.cuts.specs.Received.{Side, Report, sideAfter, stepOf, received, Short}

@@ -9,9 +9,9 @@ use Rattle.mpa.specs.Fpdu.{maxUlpdu, totalOf}
 use Rattle.ddp.specs.declared.refusal.Refusal.{Refusal}
 use Rattle.domain.specs.Domain.{domainReceived, domainReceivedBytes}
 use Rattle.domain.specs.declared.Domain.{Domain}
-use Rattle.domain.specs.declared.Event.{Event}
-use Rattle.domain.specs.declared.Answer.{Answer}
-use Rattle.domain.specs.declared.Answer.the-variants.{Wait, Taken, Ended, Refused}
+use Rattle.arrival.specs.declared.Event.{Event}
+use Rattle.arrival.specs.declared.Answer.{Answer}
+use Rattle.arrival.specs.declared.Answer.the-variants.{Wait, Taken, Ended, Refused}
 use Rattle.cuts.specs.Cuts.{Step, Holds, Offered, offer}
 use Rattle.cuts.specs.Cuts.Step.{waits, took, ends, refuses}
 use Rattle.cuts.specs.Cuts.Answer.{refused}

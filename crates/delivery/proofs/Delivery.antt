@@ -17,14 +17,14 @@ use Rattle.memory.specs.declared.window.Window.{Window}
 use Rattle.memory.specs.declared.part.Outcome.the-variants.{Done}
 use Rattle.memory.specs.declared.window.Found.the-variants.{Slot}
 use Rattle.rdmap.specs.Message.{goesOn, takesStag}
-use Rattle.rdmap.specs.Stream.{sentOn}
+use Rattle.rdmap.specs.Stream.{sentOn, noStream}
 use Rattle.rdmap.specs.declared.message.Invalidate.{Invalidate}
 use Rattle.rdmap.specs.declared.message.Invalidate.the-variants.{NoStag, Stag}
 use Rattle.rdmap.specs.declared.stream.Stream.{Stream}
-use Rattle.domain.specs.Domain.{noStream, streamAt}
-use Rattle.domain.specs.Parts.{sentEvent, killed}
+use Rattle.domain.specs.Domain.{streamAt}
+use Rattle.arrival.specs.Parts.{sentEvent, killed}
 use Rattle.domain.specs.declared.Domain.{Domain}
-use Rattle.domain.specs.declared.Event.the-variants.{NoEvent}
+use Rattle.arrival.specs.declared.Event.the-variants.{NoEvent}
 use Rattle.sender.specs.Message.{stagHeld, writeBegun, sendBegun, segmentBytes, advanced, segmentsOf}
 use Rattle.sender.specs.declared.Message.{Message}
 use Rattle.sender.specs.declared.Begun.the-variants.{Ready as Begins}

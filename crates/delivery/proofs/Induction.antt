@@ -14,9 +14,9 @@ use Rattle.meter.specs.Gauge.{countedMeter}
 use Rattle.meter.specs.declared.Meter.{Meter}
 use Rattle.domain.specs.Domain.{withStream, withMeter}
 use Rattle.domain.specs.declared.Domain.{Domain}
-use Rattle.domain.specs.declared.Event.{Event}
-use Rattle.domain.specs.declared.Event.the-variants.{NoEvent}
-use Rattle.domain.specs.declared.Answer.the-variants.{Taken}
+use Rattle.arrival.specs.declared.Event.{Event}
+use Rattle.arrival.specs.declared.Event.the-variants.{NoEvent}
+use Rattle.arrival.specs.declared.Answer.the-variants.{Taken}
 use Rattle.sender.specs.Cut.{pieceOf, endsIn}
 use Rattle.delivery.specs.Delivery.{Begin, Outcome, answering, receivedAll, payloadIn, payloads, eventThen, answersOf}
 use Rattle.delivery.proofs.Cut.{piece-more, piece-long, last-part, piece-joined}

@@ -24,10 +24,11 @@ use Rattle.rdmap.specs.declared.phase.Readiness.{Readiness}
 use Rattle.rdmap.specs.declared.phase.Readiness.the-variants.{Ready, NotReady}
 use Rattle.rdmap.specs.declared.framing.Framing.{Framing}
 use Rattle.rdmap.specs.declared.stream.Stream.{Stream}
-use Rattle.domain.specs.Domain.{noStream, streamAt, meteredOf, domainReceived, domainReceivedBytes}
-use Rattle.domain.specs.Parts.{appliedBytes, placedFrom, partsVerdict, partsPlaced, partsBytesWhen, partsReceived, partsReceivedBytes, lifted}
+use Rattle.rdmap.specs.Stream.{noStream}
+use Rattle.domain.specs.Domain.{streamAt, meteredOf, domainReceived, domainReceivedBytes, lifted}
+use Rattle.arrival.specs.Parts.{appliedBytes, placedFrom, partsVerdict, partsPlaced, partsBytesWhen, partsReceived, partsReceivedBytes}
 use Rattle.domain.specs.declared.Domain.{Domain}
-use Rattle.domain.specs.declared.Answer.the-variants.{Refused as NotReceived}
+use Rattle.arrival.specs.declared.Answer.the-variants.{Refused as NotReceived}
 use Rattle.domain.specs.declared.Received.{Received}
 use Rattle.holding.proofs.Machine.{received-framing}
 

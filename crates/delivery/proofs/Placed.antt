@@ -8,8 +8,8 @@ use lib.ListN.{length, getD, take, drop}
 use lib.Seq.{length-take-le, getD-take, getD-drop, take-at}
 use Rattle.wire.specs.Wire.{part, put}
 use Rattle.wire.proofs.Laws.{length-put, part-put, drop-put}
-use Rattle.domain.specs.declared.Event.{Event}
-use Rattle.domain.specs.declared.Event.the-variants.{NoEvent}
+use Rattle.arrival.specs.declared.Event.{Event}
+use Rattle.arrival.specs.declared.Event.the-variants.{NoEvent}
 use Rattle.delivery.specs.Delivery.{withEvent, eventsOf, answersOf}
 use Rattle.delivery.specs.Promise.{Placed}
 

@@ -34,8 +34,8 @@ use Rattle.rdmap.specs.declared.message.Verdict.{Verdict}
 use Rattle.rdmap.specs.declared.message.Verdict.the-variants.{SendMore, SendLast}
 use Rattle.rdmap.specs.declared.phase.Readiness.the-variants.{Ready}
 use Rattle.rdmap.specs.declared.stream.Stream.{Stream}
-use Rattle.domain.specs.Parts.{sentEvent, partsTaken, partsApplied, placedFrom, appliedBytes, partsVerdict, partsJudged, partsPlaced, partsAnswered, partsWhen, partsBytesWhen, partsReceived, partsReceivedBytes}
-use Rattle.domain.specs.declared.Event.the-variants.{NoEvent}
+use Rattle.arrival.specs.Parts.{sentEvent, partsTaken, partsApplied, placedFrom, appliedBytes, partsVerdict, partsJudged, partsPlaced, partsAnswered, partsWhen, partsBytesWhen, partsReceived, partsReceivedBytes}
+use Rattle.arrival.specs.declared.Event.the-variants.{NoEvent}
 use Rattle.delivery.specs.Delivery.{invalidates}
 
 -- what lies in the part is placed whole

@@ -11,13 +11,14 @@ use Rattle.wire.specs.Wire.{pick}
 use Rattle.ddp.specs.Segment.{segmentRead}
 use Rattle.ddp.specs.declared.segment.SegmentRead.{SegmentRead}
 use Rattle.rdmap.specs.declared.stream.Stream.{Stream}
-use Rattle.domain.specs.Domain.{noStream, streamAt, withStream, metered, meteredOf, domainReceived, domainReceivedBytes}
-use Rattle.domain.specs.Parts.{partsReceived, partsReceivedBytes, killed, lifted}
-use Rattle.domain.specs.declared.Answer.{Answer}
-use Rattle.domain.specs.declared.Answer.the-variants.{Refused}
+use Rattle.rdmap.specs.Stream.{noStream}
+use Rattle.domain.specs.Domain.{streamAt, withStream, metered, meteredOf, domainReceived, domainReceivedBytes, lifted}
+use Rattle.arrival.specs.Parts.{partsReceived, partsReceivedBytes, killed}
+use Rattle.arrival.specs.declared.Answer.{Answer}
+use Rattle.arrival.specs.declared.Answer.the-variants.{Refused}
 use Rattle.domain.specs.declared.Domain.{Domain}
 use Rattle.domain.specs.declared.Received.{Received}
-use Rattle.domain.specs.declared.parts.PartsReceived.{PartsReceived}
+use Rattle.arrival.specs.declared.parts.PartsReceived.{PartsReceived}
 use Rattle.delivery.specs.Delivery.{Outcome, answering, receivedAll}
 
 pub outcome-path : {a b : List Answer} {x y : Domain} {p q : List ℕ} → a ≡ b → x ≡ y → p ≡ q → _≡_ {A = Outcome} (record { answers = a; domain = x; bytes = p }) (record { answers = b; domain = y; bytes = q })

@@ -8,10 +8,10 @@ use lib.ListN.{length}
 use lib.Seq.{drop-append-seam}
 use Rattle.domain.specs.Domain.{domainReceived, domainReceivedBytes}
 use Rattle.domain.specs.declared.Domain.{Domain}
-use Rattle.domain.specs.declared.Event.{Event}
-use Rattle.domain.specs.declared.Event.the-variants.{NoEvent}
-use Rattle.domain.specs.declared.Answer.{Answer}
-use Rattle.domain.specs.declared.Answer.the-variants.{Wait}
+use Rattle.arrival.specs.declared.Event.{Event}
+use Rattle.arrival.specs.declared.Event.the-variants.{NoEvent}
+use Rattle.arrival.specs.declared.Answer.{Answer}
+use Rattle.arrival.specs.declared.Answer.the-variants.{Wait}
 use Rattle.sender.specs.Message.{writeBegun, sendBegun}
 use Rattle.sender.specs.declared.Message.{Message}
 use Rattle.sender.specs.declared.Begun.the-variants.{Ready}

@@ -25,8 +25,8 @@ use Rattle.rdmap.specs.declared.message.Verdict.{Verdict}
 use Rattle.rdmap.specs.declared.message.Verdict.the-variants.{Nothing, Write}
 use Rattle.rdmap.specs.declared.phase.Readiness.the-variants.{Ready}
 use Rattle.rdmap.specs.declared.stream.Stream.{Stream}
-use Rattle.domain.specs.Parts.{partsTaken, partsApplied, appliedBytes, taggedVerdict, partsJudged, partsPlaced, partsAnswered, partsWhen, partsBytesWhen, partsReceived, partsReceivedBytes}
-use Rattle.domain.specs.declared.Event.the-variants.{NoEvent}
+use Rattle.arrival.specs.Parts.{partsTaken, partsApplied, appliedBytes, taggedVerdict, partsJudged, partsPlaced, partsAnswered, partsWhen, partsBytesWhen, partsReceived, partsReceivedBytes}
+use Rattle.arrival.specs.declared.Event.the-variants.{NoEvent}
 use Rattle.delivery.specs.Promise.{Covers}
 use Rattle.delivery.proofs.Segment.{placed-whole}
 

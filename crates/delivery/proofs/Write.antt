@@ -22,8 +22,8 @@ use Rattle.meter.specs.Gauge.{countedMeter}
 use Rattle.meter.specs.declared.Meter.{Meter}
 use Rattle.domain.specs.Domain.{withStream, withMeter}
 use Rattle.domain.specs.declared.Domain.{Domain}
-use Rattle.domain.specs.declared.Event.the-variants.{NoEvent}
-use Rattle.domain.specs.declared.Answer.the-variants.{Taken}
+use Rattle.arrival.specs.declared.Event.the-variants.{NoEvent}
+use Rattle.arrival.specs.declared.Answer.the-variants.{Taken}
 use Rattle.sender.specs.Cut.{pieceOf, endsIn}
 use Rattle.sender.specs.Message.{max32, headerBytes, segmentBytes, advanced, segmentsOf}
 use Rattle.sender.specs.declared.Message.{Message}

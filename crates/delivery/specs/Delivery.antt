@@ -15,13 +15,13 @@ use Rattle.rdmap.specs.Stream.{sentOn}
 use Rattle.rdmap.specs.declared.message.Invalidate.{Invalidate}
 use Rattle.rdmap.specs.declared.message.Invalidate.the-variants.{NoStag, Stag}
 use Rattle.meter.specs.Gauge.{countedMeter}
-use Rattle.domain.specs.Parts.{killed}
+use Rattle.arrival.specs.Parts.{killed}
 use Rattle.domain.specs.Domain.{streamAt, withMeter, domainReceived, domainReceivedBytes}
 use Rattle.domain.specs.declared.Domain.{Domain}
-use Rattle.domain.specs.declared.Event.{Event}
-use Rattle.domain.specs.declared.Event.the-variants.{NoEvent, Sent, SentInvalidating, Terminated}
-use Rattle.domain.specs.declared.Answer.{Answer}
-use Rattle.domain.specs.declared.Answer.the-variants.{Wait, Taken, Ended, Refused}
+use Rattle.arrival.specs.declared.Event.{Event}
+use Rattle.arrival.specs.declared.Event.the-variants.{NoEvent, Sent, SentInvalidating, Terminated}
+use Rattle.arrival.specs.declared.Answer.{Answer}
+use Rattle.arrival.specs.declared.Answer.the-variants.{Wait, Taken, Ended, Refused}
 use Rattle.sender.specs.Message.{segmentsOf}
 use Rattle.sender.specs.declared.Message.{Message}
 

@@ -8,9 +8,9 @@ use lib.ListN.{length}
 use Rattle.ddp.specs.Untagged.{nextMsn}
 use Rattle.rdmap.specs.Message.{takesStag}
 use Rattle.domain.specs.Domain.{streamAt}
-use Rattle.domain.specs.declared.Answer.{Answer}
+use Rattle.arrival.specs.declared.Answer.{Answer}
 use Rattle.domain.specs.declared.Domain.{Domain}
-use Rattle.domain.specs.declared.Event.the-variants.{NoEvent}
+use Rattle.arrival.specs.declared.Event.the-variants.{NoEvent}
 use Rattle.rnic.specs.Rnic.{domainAt, withDomain, bytesOf, rnicReceived, rnicReceivedStore}
 use Rattle.rnic.specs.declared.Rnic.{Rnic}
 use Rattle.delivery.specs.Delivery.{payloads, answersOf, eventsOf, invalidates, sentDomain, writtenDomain}

@@ -16,10 +16,10 @@ use Rattle.rdmap.specs.Phase.{readiness}
 use Rattle.rdmap.specs.Sends.{currentBuffer}
 use Rattle.rdmap.specs.declared.phase.Readiness.the-variants.{Ready}
 use Rattle.domain.specs.Domain.{streamAt}
-use Rattle.domain.specs.Parts.{sentEvent}
+use Rattle.arrival.specs.Parts.{sentEvent}
 use Rattle.domain.specs.declared.Domain.{Domain}
-use Rattle.domain.specs.declared.Event.{Event}
-use Rattle.domain.specs.declared.Event.the-variants.{NoEvent}
+use Rattle.arrival.specs.declared.Event.{Event}
+use Rattle.arrival.specs.declared.Event.the-variants.{NoEvent}
 use Rattle.delivery.specs.Delivery.{Outcome, payloads, answersOf, eventsOf, invalidates, sentDomain, writtenDomain}
 
 -- ---- what is needed

@@ -14,7 +14,7 @@ use Rattle.rdmap.specs.Read.{queuedReads}
 use Rattle.rdmap.specs.Sends.{sendingSends, sentSends}
 use Rattle.rdmap.specs.Message.{opcodeOf, controlled, after, mayWrite, writeVerdict}
 use Rattle.rdmap.specs.Refusal.{noWriteRight}
-use Rattle.rdmap.specs.Stream.{inPhase, withSends, withReads, endedBy}
+use Rattle.rdmap.specs.Stream.{inPhase, withSends, withReads, endedBy, noStream}
 use Rattle.rdmap.specs.Terminates.{risenTerminates}
 use Rattle.memory.specs.declared.window.Window.{Window}
 use Rattle.ddp.specs.Tagged.{taggedOf}
@@ -32,13 +32,13 @@ use Rattle.rdmap.specs.declared.sends.Sends.{Sends}
 use Rattle.rdmap.specs.declared.stream.Stream.{Stream}
 use Rattle.rdmap.specs.declared.terminates.Terminates.{Terminates}
 use Rattle.ddp.specs.declared.segment.SegmentRead.{SegmentRead}
-use Rattle.domain.specs.Domain.{noStream, streamAt, withStream, withWindows, withMeter, segmentCount, meterBy}
-use Rattle.domain.specs.Parts.{lifted, killed, sentEvent, partsApplied, placedFrom, appliedBytes, taggedVerdict}
-use Rattle.domain.specs.declared.Answer.{Answer}
-use Rattle.domain.specs.declared.Answer.the-variants.{Taken, Ended}
+use Rattle.domain.specs.Domain.{streamAt, withStream, withWindows, withMeter, segmentCount, meterBy, lifted}
+use Rattle.arrival.specs.Parts.{killed, sentEvent, partsApplied, placedFrom, appliedBytes, taggedVerdict}
+use Rattle.arrival.specs.declared.Answer.{Answer}
+use Rattle.arrival.specs.declared.Answer.the-variants.{Taken, Ended}
 use Rattle.domain.specs.declared.Domain.{Domain}
-use Rattle.domain.specs.declared.parts.PartsReceived.{PartsReceived}
-use Rattle.domain.specs.declared.Event.the-variants.{NoEvent, Terminated}
+use Rattle.arrival.specs.declared.parts.PartsReceived.{PartsReceived}
+use Rattle.arrival.specs.declared.Event.the-variants.{NoEvent, Terminated}
 use Rattle.rnic.specs.Rnic.{noDomain, domainAt, withDomain}
 use Rattle.rnic.specs.declared.Rnic.{Rnic}
 use Rattle.block.specs.Stream.{loadedSends, loadedReads, loadedTerminates}

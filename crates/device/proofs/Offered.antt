@@ -15,18 +15,18 @@ use Rattle.memory.specs.declared.window.Window.{Window}
 use Rattle.ddp.specs.Segment.{segmentRead}
 use Rattle.rdmap.specs.Framing.{framingHolding}
 use Rattle.rdmap.specs.Phase.{readiness}
-use Rattle.rdmap.specs.Stream.{withFraming, holding}
+use Rattle.rdmap.specs.Stream.{withFraming, holding, noStream}
 use Rattle.rdmap.specs.declared.framing.Framing.{Framing}
 use Rattle.rdmap.specs.declared.phase.Readiness.{Readiness}
 use Rattle.rdmap.specs.declared.phase.Readiness.the-variants.{Ready, NotReady}
 use Rattle.rdmap.specs.declared.stream.Stream.{Stream}
 use Rattle.ddp.specs.declared.segment.SegmentRead.{SegmentRead}
-use Rattle.domain.specs.Domain.{noStream, streamAt, withStream, segmentCount, meterBy, metered, meteredOf, domainReceived, domainReceivedBytes}
-use Rattle.domain.specs.Parts.{partsAnswered, partsJudged, partsPlaced, partsUnchanged, partsWhen, partsBytesWhen, partsReceived, partsReceivedBytes, killed, lifted}
-use Rattle.domain.specs.declared.Answer.{Answer}
-use Rattle.domain.specs.declared.Answer.the-variants.{Wait, Taken, Ended, Refused}
+use Rattle.domain.specs.Domain.{streamAt, withStream, segmentCount, meterBy, metered, meteredOf, domainReceived, domainReceivedBytes, lifted}
+use Rattle.arrival.specs.Parts.{partsAnswered, partsJudged, partsPlaced, partsUnchanged, partsWhen, partsBytesWhen, partsReceived, partsReceivedBytes, killed}
+use Rattle.arrival.specs.declared.Answer.{Answer}
+use Rattle.arrival.specs.declared.Answer.the-variants.{Wait, Taken, Ended, Refused}
 use Rattle.domain.specs.declared.Domain.{Domain}
-use Rattle.domain.specs.declared.parts.PartsReceived.{PartsReceived}
+use Rattle.arrival.specs.declared.parts.PartsReceived.{PartsReceived}
 use Rattle.holding.specs.Pending.{roomBytes, neededOf, isShort, gathered, heldNow, roomAfter}
 use Rattle.holding.specs.Offer.{holds, domainReceives, domainReceivesBytes, offerAnswer, partsHeld, partsHeldOf, partsOffered, partsOfferedBytes}
 use Rattle.holding.specs.declared.OfferAnswer.{OfferAnswer}

@@ -12,9 +12,9 @@ use Rattle.rdmap.specs.declared.phase.Readiness.{Readiness}
 use Rattle.rdmap.specs.declared.phase.Readiness.the-variants.{Ready, NotReady}
 use Rattle.rdmap.specs.declared.stream.Stream.{Stream}
 use Rattle.memory.specs.declared.window.Window.{Window}
-use Rattle.domain.specs.Parts.{partsAnswered, partsJudged, partsPlaced, partsWhen, partsBytesWhen, partsReceived, partsReceivedBytes}
-use Rattle.domain.specs.declared.Answer.{Answer}
-use Rattle.domain.specs.declared.parts.PartsReceived.{PartsReceived}
+use Rattle.arrival.specs.Parts.{partsAnswered, partsJudged, partsPlaced, partsWhen, partsBytesWhen, partsReceived, partsReceivedBytes}
+use Rattle.arrival.specs.declared.Answer.{Answer}
+use Rattle.arrival.specs.declared.parts.PartsReceived.{PartsReceived}
 use Rattle.rnic.specs.Rnic.{domainAt}
 use Rattle.calls.specs.Words.{refusedWords, answerWords}
 use Rattle.rnic.specs.declared.Rnic.{Rnic}

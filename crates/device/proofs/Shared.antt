@@ -22,14 +22,15 @@ use Rattle.memory.specs.declared.window.Window.{Window}
 use Rattle.memory.specs.declared.window.WindowDone.{WindowDone}
 use Rattle.rdmap.specs.Phase.{readiness}
 use Rattle.rdmap.specs.Sends.{postedSends}
-use Rattle.rdmap.specs.Stream.{withSends, postedOn, postedWith}
+use Rattle.rdmap.specs.Stream.{withSends, postedOn, postedWith, noStream}
 use Rattle.rdmap.specs.declared.phase.Readiness.the-variants.{Ready, NotReady}
 use Rattle.rdmap.specs.declared.sends.Sends.{Sends}
 use Rattle.rdmap.specs.declared.sends.SendsPosted.{SendsPosted}
 use Rattle.rdmap.specs.declared.stream.Stream.{Stream}
 use Rattle.rdmap.specs.declared.stream.StreamDone.{StreamDone}
-use Rattle.domain.specs.Domain.{noStream, withStream, withWindows, domainPosted, domainRegistered}
-use Rattle.domain.specs.Sharing.{either, writes, windowShares, windowsShare, waiting, buffersShare, streamsShare, domainShares, lastly}
+use Rattle.domain.specs.Domain.{withStream, withWindows, domainPosted, domainRegistered}
+use Rattle.overlap.specs.Sharing.{either, writes, windowShares, windowsShare, waiting, buffersShare, streamsShare}
+use Rattle.domain.specs.Sharing.{domainShares, lastly}
 use Rattle.domain.specs.declared.Domain.{Domain}
 use Rattle.domain.specs.declared.DomainDone.{DomainDone}
 use Rattle.rnic.specs.Rnic.{domainAt, withDomain}

@@ -11,7 +11,7 @@ use Rattle.memory.specs.declared.part.Outcome.{Outcome}
 use Rattle.memory.specs.declared.part.Outcome.the-variants.{Done, Refused}
 use Rattle.rdmap.specs.Phase.{isClosed, readiness}
 use Rattle.rdmap.specs.Read.{firstRead, poppedReads}
-use Rattle.rdmap.specs.Stream.{closedStream, openedStream, withReads, opened, closed, postedOn, postedWhen, takenFrom, takenWhen}
+use Rattle.rdmap.specs.Stream.{closedStream, openedStream, withReads, opened, closed, postedOn, postedWhen, takenFrom, takenWhen, noStream}
 use Rattle.rdmap.specs.declared.phase.Readiness.{Readiness}
 use Rattle.rdmap.specs.declared.phase.Readiness.the-variants.{Ready, NotReady}
 use Rattle.rdmap.specs.declared.read.Reads.{Reads}
@@ -23,7 +23,6 @@ use Rattle.rdmap.specs.declared.stream.StreamDone.{StreamDone}
 use Rattle.rdmap.specs.declared.stream.StreamTaken.{StreamTaken}
 use Rattle.rdmap.specs.declared.stream.TakeAnswer.{TakeAnswer}
 use Rattle.rdmap.specs.declared.stream.TakeAnswer.the-variants.{Read, Refused as NotTaken}
-use Rattle.domain.specs.Domain.{noStream}
 use Rattle.rnic.specs.Rnic.{noDomain, domainAt, withDomain}
 use Rattle.rnic.specs.declared.Rnic.{Rnic}
 use Rattle.block.specs.Stream.{loadedPhase, loadedFraming, loadedTerminates, loadedSends, loadedReads}

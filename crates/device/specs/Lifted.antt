@@ -7,12 +7,12 @@ use Rattle.memory.specs.declared.part.Part.{Part}
 use Rattle.rdmap.specs.declared.stream.Stream.{Stream}
 use Rattle.ddp.specs.Segment.{segmentRead}
 use Rattle.ddp.specs.declared.segment.SegmentRead.{SegmentRead}
-use Rattle.domain.specs.Domain.{metered}
-use Rattle.domain.specs.Parts.{lifted, partsUnchanged, partsReceived, partsReceivedBytes}
-use Rattle.domain.specs.declared.Answer.the-variants.{Refused}
+use Rattle.domain.specs.Domain.{metered, lifted}
+use Rattle.arrival.specs.Parts.{partsUnchanged, partsReceived, partsReceivedBytes}
+use Rattle.arrival.specs.declared.Answer.the-variants.{Refused}
 use Rattle.holding.specs.Offer.{holds, offerAnswer, partsOffered, partsOfferedBytes, streamRoom}
 use Rattle.holding.specs.declared.OfferAnswer.{OfferAnswer}
-use Rattle.domain.specs.declared.parts.PartsReceived.{PartsReceived}
+use Rattle.arrival.specs.declared.parts.PartsReceived.{PartsReceived}
 use Rattle.memory.specs.Window.{windowAt}
 use Rattle.memory.specs.declared.window.Window.{Window}
 use Rattle.rdmap.specs.declared.message.Verdict.{Verdict}

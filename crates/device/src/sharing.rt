@@ -3,16 +3,17 @@
 ghost use mathlib.Core.Path.{_≡_};
 ghost use Prim.Native.Nat.{_<_};
 ghost use Rattle.wire.specs.Wire.{both};
-ghost use Rattle.domain.specs.Sharing.{writes, windowsShare, waiting, buffersShare, streamsShare, domainShares};
+ghost use Rattle.overlap.specs.Sharing.{writes, windowsShare, waiting, buffersShare, streamsShare};
+ghost use Rattle.domain.specs.Sharing.{domainShares};
 ghost use Rattle.rnic.specs.Rnic.{domainAt};
 ghost use Rattle.block.specs.Device.{rnicAt};
 ghost use Rattle.block.specs.Exchange.{streamOf};
 use block::sends::load_head;
 use block::sends::load_sends;
 use block::window::load_window;
-use domain::sharing::buffers_share;
-use domain::sharing::has_write;
-use domain::sharing::window_shares;
+use overlap::buffers_share;
+use overlap::has_write;
+use overlap::window_shares;
 
 // Whether one of a domain's live windows that a peer may write shares a byte with the len bytes from place.
 fn windows_share(words: &[u64; 945], domain: usize, place: u64, len: u64) -> bool

@@ -1,2 +1,1 @@
-pub mod Inside
-pub mod Entries
+pub mod Unshared

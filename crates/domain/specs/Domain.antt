@@ -1,7 +1,7 @@
 -- What one domain does at each call, over its own state and its own bytes of the store. This is paper 01's "A's book" (a domain is the paper's branch).
 use Prim.Native.Nat.{ℕ}
 use mathlib.Core.Bool.{Bool}
-use mathlib.Core.List.{List, []}
+use mathlib.Core.List.{List}
 use lib.ListN.{getD, set, replicate}
 use lib.Dec.{leb, eqb}
 use Rattle.wire.specs.Wire.{pick, both}
@@ -14,33 +14,23 @@ use Rattle.meter.specs.declared.gauge.Reading.{Reading}
 use Rattle.ddp.specs.Segment.{segmentRead}
 use Rattle.ddp.specs.declared.segment.SegmentRead.{SegmentRead}
 use Rattle.ddp.specs.declared.segment.SegmentRead.the-variants.{Wait as SegmentWait, Refused as SegmentRefused, Tagged as TaggedSegment, Untagged as UntaggedSegment}
-use Rattle.rdmap.specs.Phase.{phaseOf}
-use Rattle.rdmap.specs.Framing.{noFraming}
-use Rattle.rdmap.specs.Stream.{closedStream, opened, closed, postedOn, takenFrom, stateIn}
-use Rattle.domain.specs.Parts.{partsReceived, partsReceivedBytes, lifted}
-use Rattle.domain.specs.Sharing.{writes, domainShares, lastly}
+use Rattle.rdmap.specs.Stream.{noStream, closedStream, opened, closed, postedOn, takenFrom, stateIn}
+use Rattle.arrival.specs.Parts.{partsReceived, partsReceivedBytes, killed}
+use Rattle.arrival.specs.declared.parts.PartsReceived.{PartsReceived}
+use Rattle.overlap.specs.Sharing.{writes}
+use Rattle.domain.specs.Sharing.{domainShares, lastly}
 use Rattle.domain.specs.declared.Domain.{Domain}
 use Rattle.domain.specs.declared.DomainDone.{DomainDone}
 use Rattle.domain.specs.declared.DomainClosed.{DomainClosed}
 use Rattle.domain.specs.declared.DomainTaken.{DomainTaken}
-use Rattle.domain.specs.declared.Answer.{Answer}
-use Rattle.domain.specs.declared.Answer.the-variants.{Wait, Taken, Ended, Refused}
+use Rattle.arrival.specs.declared.Answer.{Answer}
+use Rattle.arrival.specs.declared.Answer.the-variants.{Wait, Taken, Ended, Refused}
 use Rattle.domain.specs.declared.Received.{Received}
 use Rattle.rdmap.specs.declared.stream.CloseAnswer.the-variants.{Refused as NotClosed}
 use Rattle.rdmap.specs.declared.stream.TakeAnswer.the-variants.{Refused as NotTaken}
 use Rattle.rdmap.specs.declared.stream.StateAnswer.{StateAnswer}
 use Rattle.rdmap.specs.declared.stream.StateAnswer.the-variants.{Refused as NotStated}
 use Rattle.rdmap.specs.declared.stream.Stream.{Stream}
-
--- past the last stream, of which nothing is asked: as an array's default, its own arrays are empty
-abbrev pub noStream : Stream
-noStream = record {
-  phase = phaseOf 0;
-  framing = noFraming;
-  sends = record { msn = 0; opcode = 0; taken = 0; buffers = record { count = 0; entries = [] } };
-  reads = record { msn = 0; count = 0; entries = [] };
-  terminates = record { msn = 0 };
-}
 
 abbrev pub streamAt : Domain → ℕ → Stream
 streamAt d slot = getD (d .streams) slot noStream
@@ -140,7 +130,14 @@ domainReading d = readingOf (d .meter .gauge) (d .meter .ticked)
 
 -- ---- receive
 
--- receive on the stream of a slot of domain number: the answer and the domain. It is that of specs/Parts.antt, lifted: the stream
+-- what receive over the parts of a domain makes of it
+abbrev pub lifted : Domain → ℕ → PartsReceived → Received
+lifted d slot r = record {
+  answer = r .answer;
+  domain = record { part = d .part; windows = killed (r .invalidate) (d .windows); streams = set (d .streams) slot (r .stream); meter = d .meter };
+}
+
+-- receive on the stream of a slot of domain number: the answer and the domain. It is that of `arrival`'s specs/Parts.antt, lifted: the stream
 -- of the slot is exchanged, and the window that a Send invalidated is dead; and what was placed is counted.
 unfoldable pub domainReceived : Domain → ℕ → ℕ → List ℕ → Received
 domainReceived d number slot input =

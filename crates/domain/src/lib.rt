@@ -2,12 +2,12 @@
 // streams, by value, and what each call does with them. A function here has no other domain's
 // records in hand, and is lent no other domain's bytes.
 //
-// Read `Domain` first, then `receive`, which takes the first FPDU of some bytes for a stream, and
-// `Answer`, what it answers; the module `parts` does it over what it needs of the domain, and `placing`
-// puts the payload in its place. The definitions, in specs/Domain.antt, are the paper's "A's book".
+// Read `Domain` first, then `receive`, which takes the first FPDU of some bytes for a stream: the crate
+// `arrival` does it over what it needs of the domain, and the crate `overlap` says whether two writers
+// would share a byte. The definitions, in specs/Domain.antt, are the paper's "A's book".
 ghost use mathlib.Core.Path.{_≡_};
 ghost use Prim.Native.Nat.{_<_};
-ghost use Rattle.domain.specs.Sharing.{lastly};
+ghost use Rattle.domain.specs.Sharing.{domainShares, lastly};
 ghost use Rattle.domain.specs.Domain.{
   withStream,
   newDomain,
@@ -26,11 +26,9 @@ ghost use Rattle.domain.specs.Domain.{
   domainReading,
 };
 ghost use Rattle.ddp.specs.Segment.{segmentRead};
-use crate::parts::kill;
-use crate::parts::receive_parts;
-use crate::sharing::domain_shares;
-use crate::sharing::has_write;
-use ddp::refusal::Refusal;
+use arrival::Answer;
+use arrival::parts::kill;
+use arrival::parts::receive_parts;
 use ddp::segment::SegmentRead;
 use ddp::segment::read_segment;
 use memory::part::Outcome;
@@ -39,15 +37,15 @@ use memory::window::Window;
 use meter::Meter;
 use meter::gauge::Reading;
 use meter::new_meter;
+use overlap::either_of;
+use overlap::has_write;
+use overlap::streams_share;
+use overlap::windows_share;
 use rdmap::stream::CloseAnswer;
 use rdmap::stream::StateAnswer;
 use rdmap::stream::Stream;
 use rdmap::stream::TakeAnswer;
 use rdmap::stream::closed_stream;
-
-pub mod parts;
-pub mod placing;
-pub mod sharing;
 
 // What a domain holds.
 #[repr(C)]
@@ -74,37 +72,7 @@ pub struct DomainTaken {
     pub domain: Domain,
 }
 
-// What a taken FPDU reports: nothing; a Send that is complete, with its buffer's start, its length
-// and its opcode, and the STag that it invalidated; or a Terminate.
-pub enum Event {
-    NoEvent,
-    Sent {
-        start: u32,
-        len: u32,
-        opcode: u8,
-    },
-    SentInvalidating {
-        start: u32,
-        len: u32,
-        opcode: u8,
-        stag: u32,
-    },
-    Terminated {
-        layer: u8,
-        etype: u8,
-        code: u8,
-    },
-}
-
-// What receive answers: how many bytes to wait for; the FPDU's total with an event; a refusal of
-// the peer's bytes, which ended the stream; or a local refusal.
-pub enum Answer {
-    Wait(usize),
-    Taken { total: usize, event: Event },
-    Ended(Refusal),
-    Refused(u8),
-}
-
+// What receive answers, and the domain after it.
 pub struct Received {
     pub answer: Answer,
     pub domain: Domain,
@@ -118,6 +86,16 @@ fn with_stream(d: Domain, slot: usize, stream: Stream) -> Domain
     let mut next = d;
     next.streams[slot] = stream;
     next
+}
+
+// Whether some of the len bytes from place are a write window's or a waiting buffer's of the domain.
+pub fn domain_shares(d: Domain, place: u64, len: u64) -> bool
+    ensures { λ r. ⌜ r ≡ domainShares d place len ⌝ }
+{
+    let windows = d.windows;
+    let streams = d.streams;
+    let by_windows = windows_share(windows, place, len);
+    either_of(by_windows, streams_share(streams, place, len))
 }
 
 // What a call answers that is refused with 19, asked last, where bytes are shared; d is the domain before it.

@@ -19,17 +19,17 @@ use Rattle.ddp.specs.declared.segment.SegmentRead.the-variants.{Wait as Segment
 use Rattle.memory.specs.declared.window.Window.{Window}
 use Rattle.rdmap.specs.Message.{queueOf}
 use Rattle.rdmap.specs.Phase.{readiness}
-use Rattle.rdmap.specs.Stream.{holding}
+use Rattle.rdmap.specs.Stream.{holding, noStream}
 use Rattle.rdmap.specs.declared.message.Verdict.{Verdict}
 use Rattle.rdmap.specs.declared.message.Verdict.the-variants.{Refused as VerdictRefused, Nothing, Write, SendMore, SendLast, Read, Terminate}
 use Rattle.rdmap.specs.declared.phase.Readiness.{Readiness}
 use Rattle.rdmap.specs.declared.phase.Readiness.the-variants.{Ready, NotReady}
 use Rattle.rdmap.specs.declared.stream.Stream.{Stream}
-use Rattle.domain.specs.Domain.{noStream, streamAt, domainReceivedBytes, meteredOf}
-use Rattle.domain.specs.Parts.{partsApplied, partsVerdict, partsJudged, partsPlaced, partsUnchanged, partsAnswered, partsWhen, partsBytesWhen, partsReceived, partsReceivedBytes, lifted}
-use Rattle.domain.specs.declared.Answer.the-variants.{Wait, Refused}
+use Rattle.domain.specs.Domain.{streamAt, domainReceivedBytes, meteredOf, lifted}
+use Rattle.arrival.specs.Parts.{partsApplied, partsVerdict, partsJudged, partsPlaced, partsUnchanged, partsAnswered, partsWhen, partsBytesWhen, partsReceived, partsReceivedBytes}
+use Rattle.arrival.specs.declared.Answer.the-variants.{Wait, Refused}
 use Rattle.domain.specs.declared.Domain.{Domain}
-use Rattle.domain.specs.declared.parts.PartsReceived.{PartsReceived}
+use Rattle.arrival.specs.declared.parts.PartsReceived.{PartsReceived}
 use Rattle.cuts.specs.Received.{Short}
 use Rattle.holding.specs.Pending.{roomBytes, neededOf, isShort, copied, roomAfter}
 use Rattle.holding.proofs.Pending.{Few, short-few, Decided, enough-judges}

@@ -15,7 +15,7 @@ use Rattle.ddp.specs.Segment.{segmentRead}
 use Rattle.ddp.specs.declared.segment.SegmentRead.{SegmentRead}
 use Rattle.ddp.specs.declared.segment.SegmentRead.the-variants.{Wait as SegmentWait, Refused as SegmentRefused, Tagged as TaggedSegment, Untagged as UntaggedSegment}
 use Rattle.rdmap.specs.Phase.{readiness}
-use Rattle.rdmap.specs.Stream.{holding}
+use Rattle.rdmap.specs.Stream.{holding, noStream}
 use Rattle.rdmap.specs.declared.framing.Framing.{Framing}
 use Rattle.rdmap.specs.declared.message.Verdict.{Verdict}
 use Rattle.rdmap.specs.declared.message.Verdict.the-variants.{Refused as VerdictRefused, Nothing, Write, SendMore, SendLast, Read, Terminate}
@@ -23,13 +23,13 @@ use Rattle.rdmap.specs.declared.phase.Readiness.{Readiness}
 use Rattle.rdmap.specs.declared.phase.Readiness.the-variants.{Ready, NotReady}
 use Rattle.rdmap.specs.declared.stream.Stream.{Stream}
 use Rattle.meter.specs.declared.Meter.{Meter}
-use Rattle.domain.specs.Domain.{noStream, streamAt, withStream, domainReceived, domainReceivedBytes, withMeter, segmentCount, meterBy, metered, meteredOf}
-use Rattle.domain.specs.Parts.{partsApplied, partsVerdict, partsJudged, partsAnswered, partsWhen, partsReceived, partsReceivedBytes, partsUnchanged, killed, lifted}
+use Rattle.domain.specs.Domain.{streamAt, withStream, domainReceived, domainReceivedBytes, withMeter, segmentCount, meterBy, metered, meteredOf, lifted}
+use Rattle.arrival.specs.Parts.{partsApplied, partsVerdict, partsJudged, partsAnswered, partsWhen, partsReceived, partsReceivedBytes, partsUnchanged, killed}
 use Rattle.domain.specs.declared.Domain.{Domain}
-use Rattle.domain.specs.declared.Answer.{Answer}
-use Rattle.domain.specs.declared.Answer.the-variants.{Wait, Taken, Ended, Refused}
+use Rattle.arrival.specs.declared.Answer.{Answer}
+use Rattle.arrival.specs.declared.Answer.the-variants.{Wait, Taken, Ended, Refused}
 use Rattle.domain.specs.declared.Received.{Received}
-use Rattle.domain.specs.declared.parts.PartsReceived.{PartsReceived}
+use Rattle.arrival.specs.declared.parts.PartsReceived.{PartsReceived}
 use Rattle.cuts.specs.Cuts.{Holds, Offered, offerOf, offer}
 use Rattle.cuts.specs.Received.{Side, Report, sideAfter, stepOf, received, MayHold, Short}
 use Rattle.cuts.proofs.Cuts.{offer-holding}

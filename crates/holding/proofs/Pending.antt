@@ -21,12 +21,12 @@ use Rattle.ddp.specs.Segment.{segmentRead}
 use Rattle.ddp.specs.declared.segment.SegmentRead.{SegmentRead}
 use Rattle.ddp.specs.declared.segment.SegmentRead.the-variants.{Wait as SegmentWait, Refused as SegmentRefused}
 use Rattle.rdmap.specs.declared.stream.Stream.{Stream}
-use Rattle.domain.specs.Parts.{partsApplied, partsJudged, partsPlaced, partsAnswered, partsUnchanged}
-use Rattle.domain.specs.declared.Answer.{Answer}
-use Rattle.domain.specs.declared.Answer.the-variants.{Wait, Taken, Ended, Refused}
-use Rattle.domain.specs.declared.parts.PartsReceived.{PartsReceived}
-use Rattle.domain.proofs.Inside.{segment-inside}
-use Rattle.domain.proofs.Inside.{ends as endOf}
+use Rattle.arrival.specs.Parts.{partsApplied, partsJudged, partsPlaced, partsAnswered, partsUnchanged}
+use Rattle.arrival.specs.declared.Answer.{Answer}
+use Rattle.arrival.specs.declared.Answer.the-variants.{Wait, Taken, Ended, Refused}
+use Rattle.arrival.specs.declared.parts.PartsReceived.{PartsReceived}
+use Rattle.arrival.proofs.Inside.{segment-inside}
+use Rattle.arrival.proofs.Inside.{ends as endOf}
 use Rattle.cuts.proofs.Read.{sizeOf, Long, Begun, Whole, Kind, kindOf, few-read, long-read, begun-read, own-long, own-read}
 use Rattle.cuts.proofs.Read.Kind.{few, long, begun, whole}
 use Rattle.cuts.proofs.Received.{Judges, same-payload, whole-judges}

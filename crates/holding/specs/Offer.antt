@@ -10,13 +10,13 @@ use Rattle.memory.specs.declared.window.Window.{Window}
 use Rattle.rdmap.specs.Stream.{holding}
 use Rattle.rdmap.specs.declared.stream.Stream.{Stream}
 use Rattle.ddp.specs.Segment.{segmentRead}
-use Rattle.domain.specs.Domain.{streamAt, meteredOf, domainReceived, domainReceivedBytes}
-use Rattle.domain.specs.Parts.{partsUnchanged, partsReceived, partsReceivedBytes, lifted}
+use Rattle.domain.specs.Domain.{streamAt, meteredOf, domainReceived, domainReceivedBytes, lifted}
+use Rattle.arrival.specs.Parts.{partsUnchanged, partsReceived, partsReceivedBytes}
 use Rattle.domain.specs.declared.Domain.{Domain}
-use Rattle.domain.specs.declared.Answer.{Answer}
-use Rattle.domain.specs.declared.Answer.the-variants.{Wait, Taken, Ended, Refused}
+use Rattle.arrival.specs.declared.Answer.{Answer}
+use Rattle.arrival.specs.declared.Answer.the-variants.{Wait, Taken, Ended, Refused}
 use Rattle.domain.specs.declared.Received.{Received}
-use Rattle.domain.specs.declared.parts.PartsReceived.{PartsReceived}
+use Rattle.arrival.specs.declared.parts.PartsReceived.{PartsReceived}
 use Rattle.holding.specs.Pending.{roomAfter}
 use Rattle.holding.specs.declared.OfferAnswer.{OfferAnswer}
 use Rattle.holding.specs.declared.OfferAnswer.the-variants.{Kept, Completed, Ended as OfferEnded, Refused as OfferRefused}

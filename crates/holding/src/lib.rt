@@ -7,10 +7,10 @@
 // on a device. `receive` is a domain's receive, which is refused while its stream holds bytes.
 ghost use mathlib.Core.Path.{_≡_};
 ghost use Rattle.holding.specs.Offer.{holds, domainReceives, domainReceivesBytes};
+use arrival::Answer;
+use arrival::Event;
 use ddp::refusal::Refusal;
-use domain::Answer;
 use domain::Domain;
-use domain::Event;
 use domain::Received;
 use rdmap::stream::Stream;
 

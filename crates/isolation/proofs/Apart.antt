@@ -33,10 +33,11 @@ use Rattle.rdmap.specs.declared.message.Verdict.the-variants.{Refused as Verdic
 use Rattle.rdmap.specs.declared.phase.Readiness.{Readiness}
 use Rattle.rdmap.specs.declared.phase.Readiness.the-variants.{Ready, NotReady}
 use Rattle.rdmap.specs.declared.stream.Stream.{Stream}
-use Rattle.domain.specs.Domain.{noStream, streamAt, domainReceivedBytes}
-use Rattle.domain.specs.Parts.{taggedVerdict, partsVerdict, partsBytesWhen, partsReceivedBytes}
+use Rattle.rdmap.specs.Stream.{noStream}
+use Rattle.domain.specs.Domain.{streamAt, domainReceivedBytes}
+use Rattle.arrival.specs.Parts.{taggedVerdict, partsVerdict, partsBytesWhen, partsReceivedBytes}
 use Rattle.domain.specs.declared.Domain.{Domain}
-use Rattle.domain.proofs.Inside.{inside}
+use Rattle.arrival.proofs.Inside.{inside}
 use Rattle.rnic.specs.Rnic.{domainAt, bytesOf}
 use Rattle.rnic.specs.declared.Rnic.{Rnic}
 use Rattle.rnic.specs.Offer.{roomsBytes, heldBytes}

@@ -27,11 +27,12 @@ use Rattle.rdmap.specs.Message.{sendVerdict, readVerdict, terminateVerdict, mes
 use Rattle.rdmap.specs.Read.{queuedReads}
 use Rattle.rdmap.specs.Stream.{opened, closed, postedOn, sentOn, openedStream, stateOf}
 use Rattle.domain.specs.Domain.{domainOpened, domainClosed, domainPosted, domainRegistered, domainDropped, domainReceived, domainReceivedBytes, domainState}
-use Rattle.domain.specs.Parts.{partsApplied, placedFrom, appliedBytes, partsReceived, partsReceivedBytes}
-use Rattle.domain.specs.Sharing.{shares, windowShares, windowsShare, buffersShare, streamsShare, domainShares, lastly}
-use Rattle.domain.specs.declared.Answer.{Answer}
-use Rattle.domain.specs.declared.Answer.the-variants.{Wait, Taken, Ended, Refused}
-use Rattle.domain.specs.declared.Event.the-variants.{NoEvent, Sent, SentInvalidating, Terminated}
+use Rattle.arrival.specs.Parts.{partsApplied, placedFrom, appliedBytes, partsReceived, partsReceivedBytes}
+use Rattle.overlap.specs.Sharing.{shares, windowShares, windowsShare, buffersShare, streamsShare}
+use Rattle.domain.specs.Sharing.{domainShares, lastly}
+use Rattle.arrival.specs.declared.Answer.{Answer}
+use Rattle.arrival.specs.declared.Answer.the-variants.{Wait, Taken, Ended, Refused}
+use Rattle.arrival.specs.declared.Event.the-variants.{NoEvent, Sent, SentInvalidating, Terminated}
 use Rattle.holding.specs.Pending.{neededOf, isShort, copied, roomAfter}
 use Rattle.holding.specs.Offer.{domainReceives, domainReceivesBytes, partsOffered, partsOfferedBytes, domainOffered, domainOfferedBytes}
 use Rattle.holding.specs.declared.OfferAnswer.{OfferAnswer}

@@ -9,11 +9,12 @@ use Rattle.meter.specs.Invariant.{MeterWellFormed}
 use Rattle.meter.specs.declared.Meter.{Meter}
 use Rattle.meter.proofs.Invariant.{tick-well-formed, counted-fits}
 use Rattle.ddp.specs.Segment.{segmentRead}
-use Rattle.domain.specs.Domain.{streamAt, domainOpened, domainClosed, domainPosted, domainTaken, domainRegistered, domainDropped, meterBy, segmentCount, meteredOf, domainReceived}
-use Rattle.domain.specs.Parts.{partsReceived, lifted}
-use Rattle.domain.specs.Sharing.{writes, domainShares}
-use Rattle.domain.specs.declared.Answer.{Answer as ReceiveAnswer}
-use Rattle.domain.specs.declared.Answer.the-variants.{Wait, Taken, Ended, Refused}
+use Rattle.domain.specs.Domain.{streamAt, domainOpened, domainClosed, domainPosted, domainTaken, domainRegistered, domainDropped, meterBy, segmentCount, meteredOf, domainReceived, lifted}
+use Rattle.arrival.specs.Parts.{partsReceived}
+use Rattle.overlap.specs.Sharing.{writes}
+use Rattle.domain.specs.Sharing.{domainShares}
+use Rattle.arrival.specs.declared.Answer.{Answer as ReceiveAnswer}
+use Rattle.arrival.specs.declared.Answer.the-variants.{Wait, Taken, Ended, Refused}
 use Rattle.domain.specs.declared.Domain.{Domain}
 use Rattle.domain.specs.declared.DomainDone.{DomainDone}
 use Rattle.domain.specs.declared.DomainClosed.{DomainClosed}

@@ -21,7 +21,7 @@ use Rattle.ddp.specs.declared.segment.SegmentRead.{SegmentRead}
 use Rattle.ddp.specs.declared.segment.SegmentRead.the-variants.{Wait, Refused as SegmentRefused, Tagged, Untagged}
 use Rattle.memory.specs.declared.window.Window.{Window}
 use Rattle.rdmap.specs.Phase.{isClosed, readiness}
-use Rattle.rdmap.specs.Stream.{opened, closed, postedWhen, postedOn, takenWhen, takenFrom}
+use Rattle.rdmap.specs.Stream.{opened, closed, postedWhen, postedOn, takenWhen, takenFrom, noStream}
 use Rattle.rdmap.specs.declared.framing.Framing.{Framing}
 use Rattle.rdmap.specs.declared.message.Verdict.{Verdict}
 use Rattle.rdmap.specs.declared.message.Verdict.the-variants.{Refused as VerdictRefused, Nothing, Write, SendMore, SendLast, Read, Terminate}
@@ -32,16 +32,17 @@ use Rattle.rdmap.specs.declared.stream.StreamDone.{StreamDone}
 use Rattle.rdmap.specs.declared.stream.StreamClosed.{StreamClosed}
 use Rattle.rdmap.specs.declared.stream.StreamTaken.{StreamTaken}
 use Rattle.meter.specs.declared.Meter.{Meter}
-use Rattle.domain.specs.Domain.{noStream, streamAt, withWindows, domainOpened, domainClosed, domainPosted, domainTaken, domainRegistered, domainDropped, domainTicked, meteredOf, domainReceived, domainReceivedBytes}
-use Rattle.domain.specs.Parts.{appliedBytes, placedFrom, partsVerdict, partsJudged, partsPlaced, partsAnswered, partsWhen, partsBytesWhen, partsReceived, partsReceivedBytes, lifted}
-use Rattle.domain.specs.Sharing.{writes, domainShares, unlessShared, lastly}
+use Rattle.domain.specs.Domain.{streamAt, withWindows, domainOpened, domainClosed, domainPosted, domainTaken, domainRegistered, domainDropped, domainTicked, meteredOf, domainReceived, domainReceivedBytes, lifted}
+use Rattle.arrival.specs.Parts.{appliedBytes, placedFrom, partsVerdict, partsJudged, partsPlaced, partsAnswered, partsWhen, partsBytesWhen, partsReceived, partsReceivedBytes}
+use Rattle.overlap.specs.Sharing.{writes}
+use Rattle.domain.specs.Sharing.{domainShares, unlessShared, lastly}
 use Rattle.domain.specs.declared.Domain.{Domain}
 use Rattle.domain.specs.declared.DomainDone.{DomainDone}
 use Rattle.domain.specs.declared.DomainClosed.{DomainClosed}
 use Rattle.domain.specs.declared.DomainTaken.{DomainTaken}
 use Rattle.domain.specs.declared.Received.{Received}
-use Rattle.domain.specs.declared.parts.Judged.{Judged}
-use Rattle.domain.specs.declared.parts.Judged.the-variants.{Wait as JudgedWait, Fpdu}
+use Rattle.arrival.specs.declared.parts.Judged.{Judged}
+use Rattle.arrival.specs.declared.parts.Judged.the-variants.{Wait as JudgedWait, Fpdu}
 use Rattle.holding.specs.Offer.{isOpen, holds, holdsAt, domainReceives, domainReceivesBytes, partsOffered, domainOffered, domainOfferedBytes}
 use Rattle.holding.proofs.Held.{ready-phase, offered-bytes}
 use Rattle.holding.proofs.Machine.{applied-framing}

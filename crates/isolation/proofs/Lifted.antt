@@ -10,7 +10,7 @@ use Rattle.wire.specs.Wire.{pick}
 use Rattle.memory.specs.Window.{liveCount, lowestFree}
 use Rattle.memory.specs.declared.part.Outcome.the-variants.{Done}
 use Rattle.domain.specs.Domain.{domainOpened, domainClosed, domainPosted, domainTaken, domainRegistered, domainDropped, domainTicked, domainReading, domainState}
-use Rattle.domain.specs.declared.Answer.the-variants.{Refused}
+use Rattle.arrival.specs.declared.Answer.the-variants.{Refused}
 use Rattle.memory.specs.Part.{partFits}
 use Rattle.holding.specs.Offer.{domainReceives, domainReceivesBytes, streamRoom, domainOffered, domainOfferedBytes}
 use Rattle.rnic.specs.Rnic.{domainAt, withDomain, bytesOf, withBytes, rnicOpened, rnicClosed, rnicPosted, rnicTaken, rnicRegistered, rnicDropped, rnicReceived, rnicReceivedStore, receivedOwned, receivedOwnedStore, rnicLive, rnicFree, rnicTicked, rnicReading, rnicState}

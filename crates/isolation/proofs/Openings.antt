@@ -11,8 +11,8 @@ use borrow.Rule.Slice.PartMut.{midOf}
 use Rattle.wire.specs.Wire.{pick, both}
 use Rattle.wire.proofs.Laws.{both-true}
 use Rattle.memory.specs.declared.part.Outcome.the-variants.{Done, Refused as NotDone}
-use Rattle.rdmap.specs.Stream.{closedStream}
-use Rattle.domain.specs.Domain.{noStream, newDomain}
+use Rattle.rdmap.specs.Stream.{closedStream, noStream}
+use Rattle.domain.specs.Domain.{newDomain}
 use Rattle.domain.specs.declared.Domain.{Domain}
 use Rattle.rnic.specs.Rnic.{domainAt, bytesOf, inOrder, newRnic, emptyRnic, openedRnic}
 use Rattle.rnic.specs.Offer.{roomsBytes, roomOf}

@@ -45,7 +45,7 @@ use Rattle.rdmap.specs.Read.{requestAt}
 use Rattle.rdmap.specs.Refusal.{noWriteRight, noReadRight, malformed}
 use Rattle.rdmap.specs.Phase.{isClosed, readiness}
 use Rattle.rdmap.specs.Sends.{noBuffers, currentBuffer}
-use Rattle.rdmap.specs.Stream.{closedStream, holding, opened, closed, postedWhen, postedOn, takenWhen, takenFrom}
+use Rattle.rdmap.specs.Stream.{closedStream, holding, opened, closed, postedWhen, postedOn, takenWhen, takenFrom, noStream}
 use Rattle.rdmap.specs.declared.message.Control.{Control}
 use Rattle.rdmap.specs.declared.message.Control.the-variants.{Valid, Refused as ControlRefused}
 use Rattle.rdmap.specs.declared.message.Invalidate.{Invalidate}
@@ -64,18 +64,19 @@ use Rattle.meter.specs.Words.{levelBits}
 use Rattle.meter.specs.declared.Meter.{Meter}
 use Rattle.meter.proofs.Bits.{level-bits}
 use Rattle.meter.proofs.Invariant.{new-well-formed}
-use Rattle.domain.specs.Domain.{noStream, streamAt, withStream, withWindows, withMeter, newDomain, domainOpened, domainClosed, domainPosted, domainTaken, domainRegistered, domainDropped, domainTicked, meterBy, segmentCount, meteredOf, domainReceived, domainReceivedBytes}
-use Rattle.domain.specs.Parts.{appliedBytes, placedFrom, partsApplied, taggedVerdict, partsVerdict, partsJudged, partsPlaced, partsAnswered, partsWhen, partsBytesWhen, partsReceived, partsReceivedBytes, killed, lifted}
-use Rattle.domain.specs.Sharing.{writes, domainShares}
+use Rattle.domain.specs.Domain.{streamAt, withStream, withWindows, withMeter, newDomain, domainOpened, domainClosed, domainPosted, domainTaken, domainRegistered, domainDropped, domainTicked, meterBy, segmentCount, meteredOf, domainReceived, domainReceivedBytes, lifted}
+use Rattle.arrival.specs.Parts.{appliedBytes, placedFrom, partsApplied, taggedVerdict, partsVerdict, partsJudged, partsPlaced, partsAnswered, partsWhen, partsBytesWhen, partsReceived, partsReceivedBytes, killed}
+use Rattle.overlap.specs.Sharing.{writes}
+use Rattle.domain.specs.Sharing.{domainShares}
 use Rattle.domain.specs.declared.Domain.{Domain}
 use Rattle.domain.specs.declared.DomainDone.{DomainDone}
 use Rattle.domain.specs.declared.DomainClosed.{DomainClosed}
 use Rattle.domain.specs.declared.DomainTaken.{DomainTaken}
 use Rattle.domain.specs.declared.Received.{Received}
-use Rattle.domain.specs.declared.parts.PartsReceived.{PartsReceived}
-use Rattle.domain.specs.declared.parts.Judged.{Judged}
-use Rattle.domain.specs.declared.parts.Judged.the-variants.{Wait as JudgedWait, Fpdu}
-use Rattle.domain.proofs.Inside.{inside}
+use Rattle.arrival.specs.declared.parts.PartsReceived.{PartsReceived}
+use Rattle.arrival.specs.declared.parts.Judged.{Judged}
+use Rattle.arrival.specs.declared.parts.Judged.the-variants.{Wait as JudgedWait, Fpdu}
+use Rattle.arrival.proofs.Inside.{inside}
 use Rattle.memory.specs.Part.{partFits}
 use Rattle.holding.specs.Offer.{isOpen, holdsAt, domainReceives, domainReceivesBytes, partsOffered, domainOffered, domainOfferedBytes}
 use Rattle.rnic.specs.Rnic.{domainAt, bytesOf}

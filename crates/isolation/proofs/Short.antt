@@ -10,15 +10,14 @@ use lib.Seq.{take-length, getD-set-same}
 use lib.Dec.{eqb}
 use borrow.Author.Tests.{le-leb, eqb-true, eqb-false}
 use Rattle.wire.specs.Wire.{pick, both}
-use Rattle.rdmap.specs.Stream.{holding}
+use Rattle.rdmap.specs.Stream.{holding, noStream}
 use Rattle.rdmap.specs.declared.stream.Stream.{Stream}
 use Rattle.ddp.specs.Segment.{segmentRead}
-use Rattle.domain.specs.Domain.{noStream, streamAt, newDomain, meteredOf}
-use Rattle.domain.specs.Parts.{lifted}
-use Rattle.domain.specs.declared.Answer.the-variants.{Refused}
+use Rattle.domain.specs.Domain.{streamAt, newDomain, meteredOf, lifted}
+use Rattle.arrival.specs.declared.Answer.the-variants.{Refused}
 use Rattle.domain.specs.declared.Domain.{Domain}
 use Rattle.domain.specs.declared.Received.{Received}
-use Rattle.domain.specs.declared.parts.PartsReceived.{PartsReceived}
+use Rattle.arrival.specs.declared.parts.PartsReceived.{PartsReceived}
 use Rattle.cuts.specs.Received.{Short}
 use Rattle.holding.specs.Offer.{isOpen, heldOf, partsOffered, domainOffered, domainOfferedHeld}
 use Rattle.rnic.specs.Offer.{roomsBytes}

@@ -16,7 +16,7 @@ use borrow.Author.Tests.{leb-true, eq-eqb, ne-eqb, eqb-true}
 use Rattle.wire.specs.Wire.{pick, both}
 use Rattle.wire.proofs.Laws.{both-true}
 use Rattle.domain.specs.Domain.{streamAt}
-use Rattle.domain.specs.declared.Answer.the-variants.{Refused}
+use Rattle.arrival.specs.declared.Answer.the-variants.{Refused}
 use Rattle.domain.specs.declared.Domain.{Domain}
 use Rattle.holding.specs.Offer.{offerAnswer, domainOffered, domainOfferedBytes}
 use Rattle.holding.specs.declared.OfferAnswer.{OfferAnswer}

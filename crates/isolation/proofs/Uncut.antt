@@ -11,9 +11,9 @@ use lib.Dec.{eqb}
 use borrow.Author.Tests.{eqb-true, eq-eqb}
 use Rattle.wire.specs.Wire.{pick, both}
 use Rattle.domain.specs.Domain.{streamAt}
-use Rattle.domain.specs.declared.Event.the-variants.{NoEvent, Sent, SentInvalidating, Terminated}
-use Rattle.domain.specs.declared.Answer.{Answer as ReceiveAnswer}
-use Rattle.domain.specs.declared.Answer.the-variants.{Wait, Taken, Ended, Refused}
+use Rattle.arrival.specs.declared.Event.the-variants.{NoEvent, Sent, SentInvalidating, Terminated}
+use Rattle.arrival.specs.declared.Answer.{Answer as ReceiveAnswer}
+use Rattle.arrival.specs.declared.Answer.the-variants.{Wait, Taken, Ended, Refused}
 use Rattle.cuts.specs.Cuts.{Step, Offered, Outcome, Called, afterCall, offerOf, offer as machineOffer, eventsOf, leftOf, still, after, called, drain, joined, Answer as MachineAnswer}
 use Rattle.cuts.specs.Cuts.Step.{waits, took, ends, refuses}
 use Rattle.cuts.specs.Cuts.Answer.{refused}

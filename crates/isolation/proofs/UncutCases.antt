@@ -20,8 +20,8 @@ use Rattle.rdmap.specs.Read.{emptyReads}
 use Rattle.rdmap.specs.Stream.{closedStream}
 use Rattle.rdmap.specs.Terminates.{emptyTerminates}
 use Rattle.meter.specs.Gauge.{newMeter}
-use Rattle.domain.specs.Parts.{partsApplied, placedFrom, appliedBytes, partsReceived, partsReceivedBytes}
-use Rattle.domain.specs.declared.Event.the-variants.{Sent, Terminated}
+use Rattle.arrival.specs.Parts.{partsApplied, placedFrom, appliedBytes, partsReceived, partsReceivedBytes}
+use Rattle.arrival.specs.declared.Event.the-variants.{Sent, Terminated}
 use Rattle.cuts.specs.Received.{Report}
 use Rattle.cuts.specs.Received.Report.{event}
 use Rattle.cuts.proofs.Domain.{new-holds}

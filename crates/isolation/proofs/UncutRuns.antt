@@ -10,8 +10,8 @@ use Rattle.memory.specs.declared.part.Outcome.the-variants.{Done, Refused as No
 use Rattle.rdmap.specs.declared.stream.CloseAnswer.the-variants.{Closed, Refused as NotClosed}
 use Rattle.rdmap.specs.declared.stream.TakeAnswer.the-variants.{Read, Refused as NotTaken}
 use Rattle.rdmap.specs.declared.stream.StateAnswer.the-variants.{Closed as StateClosed, Open as StateOpen, Ended as StateEnded, Terminated as StateTerminated, Refused as NotStated}
-use Rattle.domain.specs.declared.Event.the-variants.{NoEvent, Sent, SentInvalidating, Terminated}
-use Rattle.domain.specs.declared.Answer.the-variants.{Wait, Taken, Ended, Refused}
+use Rattle.arrival.specs.declared.Event.the-variants.{NoEvent, Sent, SentInvalidating, Terminated}
+use Rattle.arrival.specs.declared.Answer.the-variants.{Wait, Taken, Ended, Refused}
 use Rattle.holding.specs.declared.OfferAnswer.the-variants.{Kept, Completed, Ended as OfferEnded, Refused as NotOffered}
 use Rattle.rnic.specs.declared.Count.the-variants.{Counted, Refused as NotCounted}
 use Rattle.rnic.specs.declared.ReadingAnswer.the-variants.{Reads, Refused as NotRead}

@@ -26,7 +26,7 @@ use Rattle.ddp.specs.Segment.{segmentRead}
 use Rattle.ddp.specs.declared.segment.SegmentRead.{SegmentRead}
 use Rattle.rdmap.specs.Phase.{isClosed, readiness}
 use Rattle.rdmap.specs.Sends.{noBuffers}
-use Rattle.rdmap.specs.Stream.{closedStream, withSends, holding, opened, closed, postedWhen, postedOn, takenWhen, takenFrom}
+use Rattle.rdmap.specs.Stream.{closedStream, withSends, holding, opened, closed, postedWhen, postedOn, takenWhen, takenFrom, noStream}
 use Rattle.rdmap.specs.declared.message.Invalidate.{Invalidate}
 use Rattle.rdmap.specs.declared.message.Invalidate.the-variants.{NoStag, Stag}
 use Rattle.rdmap.specs.declared.message.Verdict.{Verdict}
@@ -38,17 +38,18 @@ use Rattle.rdmap.specs.declared.stream.StreamDone.{StreamDone}
 use Rattle.rdmap.specs.declared.stream.StreamClosed.{StreamClosed}
 use Rattle.rdmap.specs.declared.stream.StreamTaken.{StreamTaken}
 use Rattle.meter.specs.declared.Meter.{Meter}
-use Rattle.domain.specs.Domain.{noStream, streamAt, withStream, withWindows, withMeter, newDomain, domainOpened, domainClosed, domainPosted, domainTaken, domainRegistered, domainDropped, domainTicked, meterBy, segmentCount, meteredOf, domainReceived}
-use Rattle.domain.specs.Parts.{partsApplied, partsJudged, partsAnswered, partsWhen, partsReceived, killed, lifted}
-use Rattle.domain.specs.Sharing.{either, shares, writes, writable, windowShares, windowsShare, waiting, buffersShare, streamsShare, domainShares, lastly}
+use Rattle.domain.specs.Domain.{streamAt, withStream, withWindows, withMeter, newDomain, domainOpened, domainClosed, domainPosted, domainTaken, domainRegistered, domainDropped, domainTicked, meterBy, segmentCount, meteredOf, domainReceived, lifted}
+use Rattle.arrival.specs.Parts.{partsApplied, partsJudged, partsAnswered, partsWhen, partsReceived, killed}
+use Rattle.overlap.specs.Sharing.{either, shares, writes, writable, windowShares, windowsShare, waiting, buffersShare, streamsShare}
+use Rattle.domain.specs.Sharing.{domainShares, lastly}
 use Rattle.domain.specs.declared.Domain.{Domain}
 use Rattle.domain.specs.declared.DomainDone.{DomainDone}
 use Rattle.domain.specs.declared.DomainClosed.{DomainClosed}
 use Rattle.domain.specs.declared.DomainTaken.{DomainTaken}
 use Rattle.domain.specs.declared.Received.{Received}
-use Rattle.domain.specs.declared.parts.PartsReceived.{PartsReceived}
-use Rattle.domain.specs.declared.parts.Judged.{Judged}
-use Rattle.domain.specs.declared.parts.Judged.the-variants.{Wait as JudgedWait, Fpdu}
+use Rattle.arrival.specs.declared.parts.PartsReceived.{PartsReceived}
+use Rattle.arrival.specs.declared.parts.Judged.{Judged}
+use Rattle.arrival.specs.declared.parts.Judged.the-variants.{Wait as JudgedWait, Fpdu}
 use Rattle.holding.specs.Offer.{holdsAt, domainReceives, partsOffered, domainOffered}
 use Rattle.isolation.specs.Writers.{Writer, buffersOf, bufferAt, Writes, startOf, lenOf, Covers, Apart}
 use Rattle.isolation.specs.Writers.Writer.{window, buffer}

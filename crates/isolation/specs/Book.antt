@@ -14,8 +14,8 @@ use Rattle.rdmap.specs.declared.stream.CloseAnswer.{CloseAnswer}
 use Rattle.rdmap.specs.declared.stream.TakeAnswer.{TakeAnswer}
 use Rattle.rdmap.specs.declared.stream.StateAnswer.{StateAnswer}
 use Rattle.domain.specs.Domain.{newDomain, domainOpened, domainClosed, domainPosted, domainTaken, domainRegistered, domainDropped, domainTicked, domainReading, domainState, streamAt}
-use Rattle.domain.specs.declared.Answer.{Answer as ReceiveAnswer}
-use Rattle.domain.specs.declared.Answer.the-variants.{Refused}
+use Rattle.arrival.specs.declared.Answer.{Answer as ReceiveAnswer}
+use Rattle.arrival.specs.declared.Answer.the-variants.{Refused}
 use Rattle.domain.specs.declared.Domain.{Domain}
 use Rattle.holding.specs.Offer.{domainReceives, domainReceivesBytes, offerAnswer, domainOffered, domainOfferedBytes, domainOfferedHeld}
 use Rattle.holding.specs.declared.OfferAnswer.{OfferAnswer}

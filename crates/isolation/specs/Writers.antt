@@ -13,7 +13,7 @@ use Rattle.ddp.specs.Segment.{segmentRead}
 use Rattle.ddp.specs.declared.segment.SegmentRead.{SegmentRead}
 use Rattle.ddp.specs.declared.segment.SegmentRead.the-variants.{Wait, Refused, Tagged, Untagged}
 use Rattle.domain.specs.Domain.{streamAt}
-use Rattle.domain.specs.Sharing.{shares, writable}
+use Rattle.overlap.specs.Sharing.{shares, writable}
 use Rattle.domain.specs.declared.Domain.{Domain}
 use Rattle.rnic.specs.Rnic.{domainAt}
 use Rattle.rnic.specs.Offer.{heldBytes}

@@ -1,6 +1,7 @@
 -- A stream's record, in groups, and what the calls on it do. Each definition changes one group and names the others whole.
 use Prim.Native.Nat.{ℕ}
 use mathlib.Core.Bool.{Bool}
+use mathlib.Core.List.{[]}
 use lib.Dec.{eqb}
 use Rattle.wire.specs.Wire.{pick}
 use Rattle.memory.specs.declared.part.Part.{Part}
@@ -27,6 +28,16 @@ use Rattle.rdmap.specs.declared.stream.TakeAnswer.the-variants.{Read, Re
 use Rattle.rdmap.specs.declared.stream.StreamTaken.{StreamTaken}
 use Rattle.rdmap.specs.declared.stream.StateAnswer.{StateAnswer}
 use Rattle.rdmap.specs.declared.stream.StateAnswer.the-variants.{Closed, Open, Ended, Terminated}
+
+-- past the last stream, of which nothing is asked: as an array's default, its own arrays are empty
+abbrev pub noStream : Stream
+noStream = record {
+  phase = phaseOf 0;
+  framing = noFraming;
+  sends = record { msn = 0; opcode = 0; taken = 0; buffers = record { count = 0; entries = [] } };
+  reads = record { msn = 0; count = 0; entries = [] };
+  terminates = record { msn = 0 };
+}
 
 -- a closed stream is all zeros
 abbrev pub closedStream : Stream

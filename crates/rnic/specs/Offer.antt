@@ -10,7 +10,7 @@ use Rattle.wire.specs.Wire.{pick, both}
 use Rattle.memory.specs.Part.{partFits}
 use Rattle.rdmap.specs.declared.stream.Stream.{Stream}
 use Rattle.domain.specs.Domain.{streamAt}
-use Rattle.domain.specs.declared.Answer.the-variants.{Refused}
+use Rattle.arrival.specs.declared.Answer.the-variants.{Refused}
 use Rattle.holding.specs.Pending.{roomBytes}
 use Rattle.holding.specs.Offer.{offerAnswer, streamRoom, domainOffered, domainOfferedBytes}
 use Rattle.holding.specs.declared.OfferAnswer.{OfferAnswer}

@@ -16,7 +16,7 @@ use Rattle.rdmap.specs.declared.stream.TakeAnswer.the-variants.{Refused as NotT
 use Rattle.rdmap.specs.declared.stream.StateAnswer.{StateAnswer}
 use Rattle.rdmap.specs.declared.stream.StateAnswer.the-variants.{Refused as NotStated}
 use Rattle.domain.specs.Domain.{newDomain, domainOpened, domainClosed, domainPosted, domainTaken, domainState, domainRegistered, domainDropped, domainTicked, domainReading}
-use Rattle.domain.specs.declared.Answer.the-variants.{Refused}
+use Rattle.arrival.specs.declared.Answer.the-variants.{Refused}
 use Rattle.domain.specs.declared.Domain.{Domain}
 use Rattle.holding.specs.Offer.{domainReceives, domainReceivesBytes}
 use Rattle.rnic.specs.declared.Rnic.{Rnic}

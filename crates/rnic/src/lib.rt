@@ -31,7 +31,7 @@ ghost use Rattle.rnic.specs.Rnic.{
   rnicReading,
 };
 ghost use mathlib.Core.List.{_∷_, []};
-use domain::Answer;
+use arrival::Answer;
 use domain::Domain;
 use domain::new_domain;
 use memory::part::Outcome;

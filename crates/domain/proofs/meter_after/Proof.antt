@@ -1,7 +1,7 @@
 -- `meter_after` meets its contract: each answer is a case of `meterBy`.
 use mathlib.Core.Path.{sym, ap, _∙_}
 use Rattle.domain.specs.Domain.{meterBy}
-use Rattle.domain.specs.declared.Answer.{Answer}
+use Rattle.arrival.specs.declared.Answer.{Answer}
 use borrow.Author.Needs.{needs}
 use Rattle.domain.proofs.meter_after.Statement.{statement}
 use Rattle.domain.proofs.meter_after.Tie as tie

@@ -3,9 +3,8 @@
 use mathlib.Core.Path.{ap}
 use borrow.Author.Tests.{le-leb, lt-leb}
 use Rattle.ddp.specs.Segment.{segmentRead}
-use Rattle.domain.specs.Domain.{streamAt, meteredOf, domainReceived, domainReceivedBytes}
-use Rattle.domain.specs.Parts.{lifted}
-use Rattle.domain.specs.declared.parts.PartsReceived.{PartsReceived}
+use Rattle.domain.specs.Domain.{streamAt, meteredOf, domainReceived, domainReceivedBytes, lifted}
+use Rattle.arrival.specs.declared.parts.PartsReceived.{PartsReceived}
 use borrow.Author.Needs.{needs}
 use Rattle.domain.proofs.receive.Statement.{statement}
 use Rattle.domain.proofs.receive.Tie as tie

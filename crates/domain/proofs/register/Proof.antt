@@ -5,7 +5,7 @@ use mathlib.Core.Bool.{Bool}
 use Rattle.wire.specs.Wire.{both}
 use Rattle.domain.specs.Domain.{domainRegistered}
 use Rattle.domain.specs.Sharing.{lastly, domainShares}
-use Rattle.domain.proofs.Entries.{none-shared}
+use Rattle.domain.proofs.Unshared.{none-shared}
 use borrow.Author.Needs.{needs}
 use Rattle.domain.proofs.register.Statement.{statement}
 use Rattle.domain.proofs.register.Tie as tie

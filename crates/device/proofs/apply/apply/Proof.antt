@@ -3,8 +3,8 @@ use Rattle.device.proofs.Applied.{told, refused, nothing, written, sent
 use Rattle.block.proofs.Stored.{phase-changed, sends-changed, reads-changed, terminates-changed}
 use Rattle.block.specs.Exchange.{streamOf, withStreamOf, withTerminates}
 use Rattle.block.specs.Device.{rnicAt}
-use Rattle.domain.specs.declared.Event.{Event}
-use Rattle.domain.specs.declared.Answer.the-variants.{Taken}
+use Rattle.arrival.specs.declared.Event.{Event}
+use Rattle.arrival.specs.declared.Answer.the-variants.{Taken}
 use Rattle.rdmap.specs.declared.terminates.Terminates.{Terminates}
 use Rattle.rdmap.specs.declared.sends.Sends.{Sends}
 use Rattle.rdmap.specs.declared.read.Reads.{Reads}

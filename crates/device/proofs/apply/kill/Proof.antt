@@ -10,7 +10,7 @@ use Prim.Native.Nat.{ℕ}
 use Rattle.block.specs.Device.{rnicAt}
 use Rattle.rnic.specs.declared.Rnic.{Rnic}
 use Rattle.rnic.specs.Rnic.{domainAt, withDomain}
-use Rattle.domain.specs.Parts.{killed}
+use Rattle.arrival.specs.Parts.{killed}
 use Rattle.domain.specs.Domain.{withWindows}
 use Rattle.rdmap.specs.declared.message.Invalidate.{Invalidate}
 use Rattle.memory.specs.Window.{refusing, entering, droppedIn, dropped}

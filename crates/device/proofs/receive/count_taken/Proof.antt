@@ -4,7 +4,7 @@ use mathlib.Core.Path.{sym, ap, _∙_}
 use Rattle.meter.specs.Gauge.{countedMeter}
 use Rattle.meter.specs.declared.Meter.{Meter}
 use Rattle.domain.specs.Domain.{withMeter, meterBy}
-use Rattle.domain.specs.declared.Answer.{Answer}
+use Rattle.arrival.specs.declared.Answer.{Answer}
 use Rattle.rnic.specs.Rnic.{domainAt, withDomain}
 use Rattle.block.specs.Device.{rnicAt}
 use Rattle.block.proofs.Stored.{meter-at, count-changed}

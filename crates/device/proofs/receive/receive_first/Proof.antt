@@ -9,8 +9,8 @@ use Rattle.block.proofs.Stored.{window-at}
 use Rattle.block.specs.Exchange.{streamOf}
 use Rattle.block.specs.Device.{rnicAt, loadedWindow}
 use Rattle.rnic.specs.Rnic.{domainAt}
-use Rattle.domain.proofs.Inside.{lent, inside}
-use Rattle.domain.specs.Parts.{taggedVerdict, partsApplied, appliedBytes}
+use Rattle.arrival.proofs.Inside.{lent, inside}
+use Rattle.arrival.specs.Parts.{taggedVerdict, partsApplied, appliedBytes}
 use Rattle.rdmap.specs.declared.message.Verdict.{Verdict}
 use Rattle.rdmap.specs.declared.message.Verdict.the-variants.{Refused as VerdictRefused}
 use Rattle.rdmap.specs.Sends.{currentBuffer}

@@ -1,7 +1,8 @@
 -- `domain_shares` meets its contract: the windows are asked, and then the streams.
 use mathlib.Core.Bool.{Bool}
 use mathlib.Core.Path.{sym, ap, ap₂, _∙_}
-use Rattle.domain.specs.Sharing.{either, domainShares, streamsShare}
+use Rattle.overlap.specs.Sharing.{either, streamsShare}
+use Rattle.domain.specs.Sharing.{domainShares}
 use Rattle.device.proofs.Shared.{streamsOf}
 use borrow.Author.Needs.{needs}
 use Rattle.device.proofs.sharing.domain_shares.Statement.{statement}

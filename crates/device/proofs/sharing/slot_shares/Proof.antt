@@ -1,6 +1,6 @@
 -- `slot_shares` meets its contract: the sends are the stream's, and where none waits nothing is shared.
 use mathlib.Core.Path.{sym, ap, _∙_}
-use Rattle.domain.specs.Sharing.{waiting, buffersShare}
+use Rattle.overlap.specs.Sharing.{waiting, buffersShare}
 use Rattle.block.specs.declared.sends.Head.{Head}
 use Rattle.rdmap.specs.declared.sends.Sends.{Sends}
 use Rattle.device.proofs.Slots.{sends-of}

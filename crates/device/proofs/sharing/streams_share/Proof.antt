@@ -4,7 +4,7 @@ use mathlib.Core.Bool.{true, false}
 use mathlib.Core.Path.{_≡_, sym, ap, _∙_}
 use native.Mathlib.Omega.{arith}
 use lib.ListN.{drop}
-use Rattle.domain.specs.Sharing.{streamsShare}
+use Rattle.overlap.specs.Sharing.{streamsShare}
 use Rattle.device.proofs.Shared.{streamsOf, streams-end, streams-next}
 use borrow.Author.Needs.{needs}
 use Rattle.device.proofs.sharing.streams_share.Statement.{statement}

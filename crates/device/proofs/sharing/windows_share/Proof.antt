@@ -5,7 +5,7 @@ use mathlib.Core.Path.{_≡_, sym, ap, _∙_}
 use native.Mathlib.Omega.{arith}
 use lib.ListN.{drop}
 use Rattle.memory.specs.declared.window.Window.{Window}
-use Rattle.domain.specs.Sharing.{windowShares, windowsShare}
+use Rattle.overlap.specs.Sharing.{windowShares, windowsShare}
 use Rattle.device.proofs.Windows.{windowsOf}
 use Rattle.device.proofs.Shared.{windows-end, windows-next}
 use borrow.Author.Needs.{needs}
