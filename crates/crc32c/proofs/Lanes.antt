@@ -8,10 +8,11 @@ use native.Mathlib.Omega.{arith}
 use lib.Bits.{bitXor, xor-zero-r, xor-comm, xor-lt}
 use lib.ListN.{length, take, drop, length-drop}
 use lib.Seq.{length-take-le}
-use Rattle.crc32c.specs.Crc.{crcBits, crcRun}
-use Rattle.crc32c.specs.Tables.{after, eight, word, Bytes}
-use Rattle.crc32c.proofs.Xor.{xor-assoc}
-use Rattle.crc32c.proofs.Carry.{run-range, run-linear}
+use Rattle.crc_bits.specs.Crc.{crcBits, crcRun}
+use Rattle.crc_halves.specs.Tables.{after}
+use Rattle.crc32c.specs.Tables.{eight, word, Bytes}
+use Rattle.crc_bits.proofs.Xor.{xor-assoc}
+use Rattle.crc_bits.proofs.Carry.{run-range, run-linear}
 use Rattle.crc32c.proofs.Words.{after-lt, after-add, after-linear, eight-is, eight-off}
 
 -- the three values joined by the bytes from i on

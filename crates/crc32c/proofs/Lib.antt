@@ -1,10 +1,3 @@
-pub mod Xor
-pub mod Linear
-pub mod Range
-pub mod Vectors
-pub mod Carry
 pub mod Words
-pub mod Arms
 pub mod Lanes
 pub mod Tables
-pub mod Shifts

@@ -13,9 +13,10 @@ use lib.Dec.{T, eqb, eqb→eq, ltb, ltb→lt, nltb→le, lit<, lit≤}
 use lib.ListN.{length, length-append, getD, List·getD-append}
 use lib.Pow.{pow-lt}
 use lib.Seq.{getD-append-add}
-use Rattle.crc32c.specs.Crc.{xor32}
-use Rattle.crc32c.specs.Tables.{after, Tables}
-use Rattle.crc32c.proofs.Xor.{xor32-is}
+use Rattle.crc_bits.specs.Crc.{xor32}
+use Rattle.crc_halves.specs.Tables.{after}
+use Rattle.crc32c.specs.Tables.{Tables}
+use Rattle.crc_bits.proofs.Xor.{xor32-is}
 use Rattle.crc32c.proofs.Words.{after-lt, after-add, after-linear}
 
 abbrev each : (ℕ → ℕ) → List ℕ → List ℕ

@@ -7,11 +7,12 @@ use native.Mathlib.Omega.{arith}
 use lib.Bits.{bitXor, xor-comm, xor-lt, xor-shifted}
 use lib.ListN.{length, getD, take, drop, take-append-drop}
 use lib.Seq.{drop-cons, drop-drop}
-use Rattle.crc32c.specs.Crc.{crcBits, crcByte, crcRun}
-use Rattle.crc32c.specs.Tables.{after, eight, word, Bytes}
-use Rattle.crc32c.proofs.Xor.{xor-assoc, xor32-is}
-use Rattle.crc32c.proofs.Linear.{bits-lt, bits-linear, bits-shift}
-use Rattle.crc32c.proofs.Carry.{bits-add, run-split}
+use Rattle.crc_bits.specs.Crc.{crcBits, crcByte, crcRun}
+use Rattle.crc_halves.specs.Tables.{after}
+use Rattle.crc32c.specs.Tables.{eight, word, Bytes}
+use Rattle.crc_bits.proofs.Xor.{xor-assoc, xor32-is}
+use Rattle.crc_bits.proofs.Linear.{bits-lt, bits-linear, bits-shift}
+use Rattle.crc_bits.proofs.Carry.{bits-add, run-split}
 
 pub after-lt : (n c : ℕ) → c < 2 ^ 32 → after n c < 2 ^ 32
 unfolding after

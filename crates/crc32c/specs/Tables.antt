@@ -3,11 +3,8 @@ use mathlib.Core.Path.{_≡_}
 use Prim.Native.Nat.{ℕ, _+_, _*_, _<_}
 use mathlib.Core.List.{List}
 use lib.ListN.{getD, take, drop}
-use Rattle.crc32c.specs.Crc.{crcBits, crcRun}
-
--- what n bits make of c
-unfoldable pub after : ℕ → ℕ → ℕ
-after n c = crcBits n c
+use Rattle.crc_bits.specs.Crc.{crcRun}
+use Rattle.crc_halves.specs.Tables.{after}
 
 -- the running value c carried on over the eight bytes from i
 unfoldable pub eight : ℕ → List ℕ → ℕ → ℕ

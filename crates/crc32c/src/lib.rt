@@ -1,13 +1,14 @@
 // CRC-32C (Castagnoli), as RFC 5044 section 4.4 uses it: polynomial 0x1EDC6F41 reflected, start all
-// ones, result inverted. The definition, bit by bit, is in specs/Crc.antt. Read `update` first; `shift` joins the CRCs
-// of two pieces.
-mod half;
+// ones, result inverted. The definition, bit by bit, is the crate `crc_bits`; here it is done by tables, those of half
+// bytes from the crate `crc_halves` for a short slice and eight of whole bytes for a long one.
+//
+// Read `update` first; `shift`, passed on from `crc_bits`, joins the CRCs of two pieces.
 mod long;
-pub mod shift;
 mod short;
 
+pub use crc_bits::shift;
 ghost use mathlib.Core.Path.{_≡_};
-ghost use Rattle.crc32c.specs.Crc.{crcRun, crcOf};
+ghost use Rattle.crc_bits.specs.Crc.{crcRun, crcOf};
 
 // The running value before the first byte.
 pub const ALL_ONES: u32 = 0xFFFF_FFFF;

@@ -4,8 +4,9 @@ use crate::short::four;
 ghost use mathlib.Core.Path.{_≡_};
 ghost use Prim.Native.Nat.{_+_, _≤_};
 ghost use lib.ListN.{length};
-ghost use Rattle.crc32c.specs.Crc.{crcRun};
-ghost use Rattle.crc32c.specs.Tables.{after, eight, Tables};
+ghost use Rattle.crc_bits.specs.Crc.{crcRun};
+ghost use Rattle.crc_halves.specs.Tables.{after};
+ghost use Rattle.crc32c.specs.Tables.{eight, Tables};
 
 // What 136, 144, .. and 192 bits make of each byte, a table of 256 entries for each number of bits.
 const TABLES: [u32; 2048] = [

@@ -1,24 +1,24 @@
 // The running value carried on over a slice, eight bytes at a time, by half bytes: nothing has to be set up. Read `carry` first.
-use crate::half::half_4;
-use crate::half::half_8;
-use crate::half::half_12;
-use crate::half::half_16;
-use crate::half::half_20;
-use crate::half::half_24;
-use crate::half::half_28;
-use crate::half::half_32;
-use crate::half::half_36;
-use crate::half::half_40;
-use crate::half::half_44;
-use crate::half::half_48;
-use crate::half::half_52;
-use crate::half::half_56;
-use crate::half::half_60;
-use crate::half::half_64;
+use crc_halves::half_4;
+use crc_halves::half_8;
+use crc_halves::half_12;
+use crc_halves::half_16;
+use crc_halves::half_20;
+use crc_halves::half_24;
+use crc_halves::half_28;
+use crc_halves::half_32;
+use crc_halves::half_36;
+use crc_halves::half_40;
+use crc_halves::half_44;
+use crc_halves::half_48;
+use crc_halves::half_52;
+use crc_halves::half_56;
+use crc_halves::half_60;
+use crc_halves::half_64;
 ghost use mathlib.Core.Path.{_≡_};
 ghost use Prim.Native.Nat.{_+_, _*_, _/_, _≤_, _<_};
 ghost use lib.ListN.{length, drop};
-ghost use Rattle.crc32c.specs.Crc.{crcByte, crcRun};
+ghost use Rattle.crc_bits.specs.Crc.{crcByte, crcRun};
 ghost use Rattle.crc32c.specs.Tables.{eight, word, Bytes};
 
 // A byte as a wider number.

@@ -6,7 +6,7 @@ use native.Mathlib.Omega.{arith}
 use lib.ListN.{length, take, drop, length-drop, take-append-drop}
 use lib.Seq.{take-all, drop-drop}
 use Rattle.crc32c.specs.Crc.{crcRun}
-use Rattle.crc32c.proofs.Carry.{run-split}
+use Rattle.crc_bits.proofs.Carry.{run-split}
 
 two-pieces : (c n : ℕ) (s : List ℕ) → crcRun (crcRun c (take n s)) (drop n s) ≡ crcRun c s
 two-pieces c n s = sym (run-split c (take n s) (drop n s)) ∙ ap (crcRun c) (take-append-drop n s)

@@ -17,7 +17,7 @@ use Rattle.wire.specs.declared.Written.{Written}
 use Rattle.wire.specs.declared.Written.the-variants.{Length, Refused as NotWritten}
 use Rattle.mpa.specs.declared.FpduRead.the-variants.{Wait, Taken}
 use Rattle.wire.proofs.Laws.{le32At-agree, agree-append, le32At-le32}
-use Rattle.crc32c.proofs.Range.{crc-lt}
+use Rattle.crc_bits.proofs.Range.{crc-lt}
 use Rattle.mpa.proofs.Frames.{length-covered, length-fpdu}
 
 module _ (u rest : List ℕ) where

@@ -6,7 +6,7 @@ use Prim.Native.Nat.{ℕ, _-_, _^_, _<_}
 use native.Mathlib.Omega.{arith}
 use lib.Dec.{lit<}
 use Rattle.crc32c.specs.Crc.{crcRun, crcOf, allOnes}
-use Rattle.crc32c.proofs.Carry.{run-range, run-split}
+use Rattle.crc_bits.proofs.Carry.{run-range, run-split}
 use Rattle.sums.specs.Sums.{crcOn}
 
 -- inverted twice

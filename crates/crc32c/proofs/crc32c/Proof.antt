@@ -3,7 +3,7 @@
 use mathlib.Core.Path.{ap}
 use Prim.Native.Nat.{ℕ, _-_}
 use borrow.Author.Needs.{needs}
-use Rattle.crc32c.specs.Crc.{crcOf, allOnes}
+use Rattle.crc_bits.specs.Crc.{crcOf, allOnes}
 use Rattle.crc32c.proofs.crc32c.Statement.{statement}
 use Rattle.crc32c.proofs.crc32c.Tie as tie
 

@@ -1,7 +1,7 @@
 -- `long::carry` meets its contract: the constant is the eight tables, by a test that antt computes over all of their entries.
 -- Assumes nothing.
-use Rattle.crc32c.specs.Crc.{crcBit, xor32}
-use Rattle.crc32c.specs.Tables.{after}
+use Rattle.crc_bits.specs.Crc.{crcBit, xor32}
+use Rattle.crc_halves.specs.Tables.{after}
 use Rattle.crc32c.proofs.Tables.{are-tables}
 use borrow.Author.Needs.{needs}
 use Rattle.crc32c.proofs.long.carry.Statement.{statement}

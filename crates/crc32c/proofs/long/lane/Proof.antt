@@ -7,7 +7,8 @@ use native.Mathlib.Omega.{arith}
 use lib.Dec.{lit<}
 use lib.Bits.{bitXor, xor-comm, xor-lt}
 use lib.ListN.{getD}
-use Rattle.crc32c.specs.Tables.{after, Tables}
+use Rattle.crc_halves.specs.Tables.{after}
+use Rattle.crc32c.specs.Tables.{Tables}
 use Rattle.crc32c.proofs.Words.{by-bytes}
 use Rattle.crc32c.proofs.Lanes.{lane-is}
 use borrow.Author.Needs.{needs}

@@ -8,8 +8,9 @@ use lib.Bits.{bitXor}
 use lib.ListN.{length, take, drop, length-drop}
 use lib.Seq.{take-all}
 use borrow.Author.Needs.{needs}
-use Rattle.crc32c.specs.Crc.{crcRun}
-use Rattle.crc32c.specs.Tables.{after, eight}
+use Rattle.crc_bits.specs.Crc.{crcRun}
+use Rattle.crc_halves.specs.Tables.{after}
+use Rattle.crc32c.specs.Tables.{eight}
 use Rattle.crc32c.proofs.Lanes.{joined, lanes-start, lanes-turn}
 use Rattle.crc32c.proofs.long.over_lanes.Statement.{statement}
 use Rattle.crc32c.proofs.long.over_lanes.Tie as tie

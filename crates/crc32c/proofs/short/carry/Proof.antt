@@ -5,7 +5,7 @@ use Prim.Native.Nat.{ℕ, _-_, _*_, _/_, _≤_}
 use native.Mathlib.Omega.{arith}
 use lib.ListN.{length, drop, length-drop}
 use lib.Seq.{take-all}
-use Rattle.crc32c.specs.Crc.{crcRun}
+use Rattle.crc_bits.specs.Crc.{crcRun}
 use borrow.Author.Needs.{needs}
 use Rattle.crc32c.proofs.short.carry.Statement.{statement}
 use Rattle.crc32c.proofs.short.carry.Tie as tie

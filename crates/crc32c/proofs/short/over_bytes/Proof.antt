@@ -9,7 +9,7 @@ use lib.ListN.{length, getD, drop, drop-of-length-le}
 use lib.Seq.{drop-cons}
 use denote.Ref.{now}
 use borrow.Author.Needs.{needs}
-use Rattle.crc32c.specs.Crc.{crcRun, crcByte}
+use Rattle.crc_bits.specs.Crc.{crcRun, crcByte}
 use Rattle.crc32c.proofs.short.over_bytes.Statement.{statement}
 use Rattle.crc32c.proofs.short.over_bytes.Tie as tie
 

@@ -4,7 +4,7 @@ use mathlib.Core.Path.{_≡_, refl, sym, ap, _∙_}
 use Prim.Native.Nat.{ℕ, _+_, _-_, _*_, _/_, _%_, _≤_, zero-le}
 use native.Mathlib.Omega.{arith}
 use lib.ListN.{length, drop}
-use Rattle.crc32c.specs.Crc.{crcRun}
+use Rattle.crc_bits.specs.Crc.{crcRun}
 use Rattle.crc32c.proofs.Words.{eight-off}
 use Rattle.crc32c.proofs.short.over_eights.Statement.{statement}
 use Rattle.crc32c.proofs.short.over_eights.Tie as tie
