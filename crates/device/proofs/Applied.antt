@@ -46,7 +46,7 @@ use Rattle.block.specs.Device.{loadedDomain, rnicAt}
 use Rattle.block.specs.Exchange.{streamOf, withStreamOf, withTerminates}
 use Rattle.block.proofs.Stored.{domain-at}
 use Rattle.device.specs.Lifted.{liftedOf, countedOf, OfTagged}
-use Rattle.device.proofs.Slots.{stream-kept, sends-of, reads-of, terminates-of}
+use Rattle.slots.proofs.Slots.{stream-kept, sends-of, reads-of, terminates-of}
 
 -- ---- two changes, one after the other
 

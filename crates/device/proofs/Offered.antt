@@ -47,7 +47,7 @@ use Rattle.device.proofs.Applied.{entry-put, entry-again, four-streams}
 use Rattle.calls.specs.Words.{words, refusedWords, answerWords, tookWords, offerWords, offeredWords}
 use Rattle.calls.proofs.Offered.{offered-words, waitOf, kind-waits}
 use Rattle.device.proofs.Received.{FirstWords, ReceivedAs}
-use Rattle.device.proofs.Slots.{stream-kept, phase-of, framing-of}
+use Rattle.slots.proofs.Slots.{stream-kept, phase-of, framing-of}
 
 -- ---- receive of a domain, by the parts that it needs
 

@@ -22,7 +22,7 @@ use Rattle.block.specs.Stream.{loadedPhase, loadedFraming}
 use Rattle.block.specs.Device.{rnicAt}
 use Rattle.block.specs.Exchange.{streamOf}
 use Rattle.device.specs.Lifted.{countedOf}
-use Rattle.device.proofs.Slots.{stream-kept, phase-of, framing-of}
+use Rattle.slots.proofs.Slots.{stream-kept, phase-of, framing-of}
 
 module _ (w : List ℕ) (d j : ℕ) (p : Part) (input mem : List ℕ) where
   abbrev b : Rnic

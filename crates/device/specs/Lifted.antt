@@ -13,13 +13,12 @@ use Rattle.arrival.specs.declared.Answer.the-variants.{Refused}
 use Rattle.holding.specs.Offer.{holds, offerAnswer, partsOffered, partsOfferedBytes, streamRoom}
 use Rattle.holding.specs.declared.OfferAnswer.{OfferAnswer}
 use Rattle.arrival.specs.declared.parts.PartsReceived.{PartsReceived}
-use Rattle.memory.specs.Window.{windowAt}
 use Rattle.memory.specs.declared.window.Window.{Window}
 use Rattle.rdmap.specs.declared.message.Verdict.{Verdict}
 use Rattle.rdmap.specs.declared.message.Verdict.the-variants.{Refused as VerdictRefused, Nothing, Write, SendMore, SendLast, Read, Terminate}
 use Rattle.rnic.specs.Rnic.{domainAt, withDomain}
 use Rattle.rnic.specs.declared.Rnic.{Rnic}
-use Rattle.block.specs.Exchange.{withWindow, streamOf}
+use Rattle.block.specs.Exchange.{streamOf}
 
 abbrev pub liftedOf : Rnic → ℕ → ℕ → PartsReceived → Rnic
 liftedOf b d j r = withDomain b d (lifted (domainAt b d) j r .domain)
@@ -27,13 +26,6 @@ liftedOf b d j r = withDomain b d (lifted (domainAt b d) j r .domain)
 -- the same, with the payload bytes of a taken Write or Send counted
 abbrev pub countedOf : Rnic → ℕ → ℕ → SegmentRead → PartsReceived → Rnic
 countedOf b d j x r = withDomain b d (metered (r .answer) x (lifted (domainAt b d) j r .domain))
-
--- the window of a domain's slot, and the device with it exchanged
-abbrev pub windowOf : Rnic → ℕ → ℕ → Window
-windowOf b d i = windowAt (domainAt b d .windows) i
-
-abbrev pub withWindowOf : Rnic → ℕ → ℕ → Window → Rnic
-withWindowOf b d i x = withDomain b d (withWindow (domainAt b d) i x)
 
 -- a verdict that there is on a tagged segment: refused, empty or written
 abbrev pub OfTagged : Verdict → Type 0

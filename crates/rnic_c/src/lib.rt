@@ -1,6 +1,6 @@
 // The device for a C program, or one in Rust: it holds a device of its own as a block of 945 words and a
 // store of any size up to 16 MiB, and calls the device by a call's number with nine numbers, or its
-// receive by itself. A call reads what it needs of the block and writes back what changed (`device`).
+// receive by itself. A call reads what it needs of the block and writes back what changed (`slots`, `device`).
 //
 // Read `rnic_c_call` first. The crate `calls` has the numbers of the calls and the words of the answers;
 // include/rnic.h has both for C. `message` has the writer for messages, `framing` the reader of FPDUs, and
@@ -20,21 +20,21 @@ use calls::words::reading_words;
 use calls::words::state_words;
 use calls::words::take_words;
 use calls::words::words;
-use device::gauge::reading;
-use device::gauge::tick;
 use device::offer::held_count;
 use device::offer::offer;
 use device::opening::open;
 use device::receive::receive;
-use device::stream::close_stream;
-use device::stream::open_stream;
-use device::stream::post;
-use device::stream::stream_state;
-use device::stream::take;
 use device::window::drop_window;
-use device::window::live_count;
-use device::window::lowest_free;
-use device::window::register;
+use slots::gauge::reading;
+use slots::gauge::tick;
+use slots::stream::close_stream;
+use slots::stream::open_stream;
+use slots::stream::post;
+use slots::stream::stream_state;
+use slots::stream::take;
+use slots::window::live_count;
+use slots::window::lowest_free;
+use slots::window::register;
 
 pub mod framing;
 pub mod message;

@@ -1,11 +1,11 @@
 --
-use Rattle.device.specs.Lifted.{windowOf}
+use Rattle.slots.specs.Window.{windowOf}
 use Rattle.wire.specs.Wire.{pick}
 use Rattle.rdmap.specs.declared.message.Invalidate.the-variants.{Stag}
 use lib.Dec.{leb}
 use mathlib.Core.Bool.{Bool, true, false}
 -- `kill` meets its contract: the window that is named is dropped; one past the sixteen, or none, changes nothing.
-use Rattle.device.proofs.Slots.{domain-kept}
+use Rattle.slots.proofs.Slots.{domain-kept}
 use Prim.Native.Nat.{ℕ}
 use Rattle.block.specs.Device.{rnicAt}
 use Rattle.rnic.specs.declared.Rnic.{Rnic}

@@ -1,5 +1,5 @@
 -- `judge_untagged` meets its contract: what was loaded is the stream's and the window that the segment names.
-use Rattle.device.proofs.Slots.{sends-of}
+use Rattle.slots.proofs.Slots.{sends-of}
 use Rattle.block.proofs.Stored.{window-at}
 use Rattle.block.specs.Device.{loadedWindow}
 use Rattle.block.specs.Queue.{headOf}

@@ -1,6 +1,6 @@
 -- `queue_of` meets its contract: the number picks the queue, whose words were loaded.
 use Rattle.block.specs.Queue.{tallyOf}
-use Rattle.device.proofs.Slots.{reads-of, terminates-of}
+use Rattle.slots.proofs.Slots.{reads-of, terminates-of}
 use Rattle.rdmap.specs.Terminates.{terminateQueue}
 use Rattle.rdmap.specs.Message.{queueOf}
 use borrow.Author.Tests.{eq-eqb, ne-eqb}

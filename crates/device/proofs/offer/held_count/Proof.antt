@@ -2,7 +2,7 @@
 use mathlib.Core.Path.{sym, ap, _∙_}
 use borrow.Author.Tests.{le-leb, lt-leb}
 use Rattle.rdmap.specs.declared.framing.Framing.{Framing}
-use Rattle.device.proofs.Slots.{framing-of}
+use Rattle.slots.proofs.Slots.{framing-of}
 use borrow.Author.Needs.{needs}
 use Rattle.device.proofs.offer.held_count.Statement.{statement}
 use Rattle.device.proofs.offer.held_count.Tie as tie

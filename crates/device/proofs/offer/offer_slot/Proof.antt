@@ -3,7 +3,7 @@ use mathlib.Core.Path.{sym, ap, _∙_}
 use native.Mathlib.Omega.{arith}
 use Rattle.rdmap.specs.Phase.{readiness}
 use Rattle.device.proofs.Offered.{offer-shut}
-use Rattle.device.proofs.Slots.{phase-of, framing-of}
+use Rattle.slots.proofs.Slots.{phase-of, framing-of}
 use borrow.Author.Needs.{needs}
 use Rattle.device.proofs.offer.offer_slot.Statement.{statement}
 use Rattle.device.proofs.offer.offer_slot.Tie as tie

@@ -8,7 +8,7 @@ use Rattle.arrival.specs.declared.Answer.{Answer}
 use Rattle.rnic.specs.Rnic.{domainAt, withDomain}
 use Rattle.block.specs.Device.{rnicAt}
 use Rattle.block.proofs.Stored.{meter-at, count-changed}
-use Rattle.device.proofs.Slots.{domain-kept}
+use Rattle.slots.proofs.Slots.{domain-kept}
 use borrow.Author.Needs.{needs}
 use Rattle.device.proofs.receive.count_taken.Statement.{statement}
 use Rattle.device.proofs.receive.count_taken.Tie as tie

@@ -4,7 +4,7 @@ use Rattle.wire.specs.Wire.{part}
 use Rattle.device.specs.Lifted.{OfTagged}
 use Rattle.device.proofs.Received.{first-told}
 use Rattle.device.proofs.Applied.{told, refused, of-tagged, counted-then, ended-uncounted}
-use Rattle.device.proofs.Slots.{stream-kept}
+use Rattle.slots.proofs.Slots.{stream-kept}
 use Rattle.block.proofs.Stored.{window-at}
 use Rattle.block.specs.Exchange.{streamOf}
 use Rattle.block.specs.Device.{rnicAt, loadedWindow}

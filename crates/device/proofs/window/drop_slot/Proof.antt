@@ -1,6 +1,6 @@
 -- `drop_slot` meets its contract: what is stored is what dropping makes of the window.
 use Rattle.block.proofs.Stored.{window-at, window-changed}
-use Rattle.device.specs.Lifted.{windowOf, withWindowOf}
+use Rattle.slots.specs.Window.{windowOf, withWindowOf}
 use Rattle.block.specs.Device.{rnicAt}
 use Rattle.memory.specs.declared.window.WindowDone.{WindowDone}
 use Rattle.memory.specs.Window.{droppedIn}
