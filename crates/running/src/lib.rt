@@ -5,5 +5,5 @@
 // Read `run::run_line` first, whose contract cites specs/Run.antt. `offer` runs a line on offers, and `line`
 // gathers a line's bytes. No public function has a `requires`.
 pub mod line;
-pub mod offer;
+mod offer;
 pub mod run;
