@@ -1,6 +1,7 @@
 //! The device: each call of the C interface as a safe function.
 
 use std::fmt;
+use std::mem::MaybeUninit;
 use std::ops::Range;
 
 use crate::answer::{Closed, Error, Offered, ReadRequest, Reading, Received, StreamState};
@@ -172,10 +173,11 @@ impl Device {
         stream: u64,
         bytes: &[u8],
     ) -> Result<Received, Error> {
-        let mut answer = [0; 8];
+        let mut answer = MaybeUninit::uninit();
         // SAFETY: each pointer is that of a reference held for the call, with its slice's own length; the state, the
-        // store and the answer are borrowed for writing, so none of the four overlaps another.
-        unsafe {
+        // store and the answer are borrowed for writing, so none of the four overlaps another. Each entry writes all
+        // words of its answer, which its contract says, and reads none.
+        let answer = unsafe {
             raw::rnic_c_receive(
                 &mut *self.state,
                 store.as_mut_ptr(),
@@ -183,10 +185,11 @@ impl Device {
                 stream,
                 bytes.as_ptr(),
                 bytes.len(),
-                &mut answer,
+                answer.as_mut_ptr(),
             );
-        }
-        words::received(&answer)
+            answer.assume_init_ref()
+        };
+        words::received(answer)
     }
 
     /// Takes bytes for a stream that may be cut anywhere, up to the end of the first FPDU that they complete; what completes
@@ -200,9 +203,9 @@ impl Device {
         stream: u64,
         bytes: &[u8],
     ) -> Result<Offered, Error> {
-        let mut answer = [0; 8];
+        let mut answer = MaybeUninit::uninit();
         // SAFETY: as in `receive`; the rooms are borrowed for writing, too.
-        unsafe {
+        let answer = unsafe {
             raw::rnic_c_offer(
                 &mut *self.state,
                 store.as_mut_ptr(),
@@ -212,10 +215,11 @@ impl Device {
                 stream,
                 bytes.as_ptr(),
                 bytes.len(),
-                &mut answer,
+                answer.as_mut_ptr(),
             );
-        }
-        words::offered(&answer)
+            answer.assume_init_ref()
+        };
+        words::offered(answer)
     }
 
     /// Gives how many bytes a stream holds: 0 where it is closed or has ended, and where there is no such stream.
@@ -252,10 +256,11 @@ impl Device {
 /// `device` points at a value that is held for the call, and that nothing else uses meanwhile; of a question it is read alone.
 #[inline]
 unsafe fn call_alone(device: *mut Rnic, number: u64, arguments: &Arguments) -> Words {
-    let mut answer = [0; 8];
+    let mut answer = MaybeUninit::uninit();
     let store: &mut [u8] = &mut [];
     let bytes: &[u8] = &[];
-    // SAFETY: the caller answers for the device; the two slices are empty, and their pointers are not null.
+    // SAFETY: the caller answers for the device; the two slices are empty, and their pointers are not null. The answer is
+    // written whole, as in `receive`.
     unsafe {
         raw::rnic_c_call(
             device,
@@ -265,10 +270,10 @@ unsafe fn call_alone(device: *mut Rnic, number: u64, arguments: &Arguments) -> W
             arguments,
             bytes.as_ptr(),
             bytes.len(),
-            &mut answer,
+            answer.as_mut_ptr(),
         );
+        answer.assume_init()
     }
-    answer
 }
 
 /// Gives the CRC-32C of some bytes, by the proved routine that receive uses.
