@@ -63,7 +63,7 @@ partsHeld s pending r (Refused k) = partsUnchanged s (Refused k)
 abbrev pub partsHeldOf : Stream → ℕ → PartsReceived → PartsReceived
 partsHeldOf s pending r = partsHeld s pending r (r .answer)
 
--- an offer over the parts of a domain that it needs, as specs/Parts.antt of the crate `domain` has receive
+-- an offer over the parts of a domain that it needs, as specs/Parts.antt of the crate `arrival` has receive
 unfoldable pub partsOffered : List Window → ℕ → Stream → List ℕ → List ℕ → PartsReceived
 partsOffered ws number s held input = partsHeldOf s (length held + length input) (partsReceived ws number (holding s 0) (held ++ input))
 
