@@ -4,6 +4,8 @@
 //
 // Read `Answer` first, what is answered; then `receive_parts` in the module `parts`. The module `placing` puts the
 // payload in its place. The definitions are in specs/Parts.antt.
+#![tactic(auto)]
+
 use ddp::refusal::Refusal;
 
 pub mod parts;

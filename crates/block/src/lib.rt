@@ -6,6 +6,8 @@
 // Read the module `layout` first, then `sends`, which has one group loaded and stored. The definitions
 // are in specs/: `rnic_at` in specs/Device.antt is the device that a block holds. proofs/Stored.antt
 // says that storing a group changes that group of the device and nothing else.
+#![tactic(auto)]
+
 mod copy;
 pub mod device;
 pub mod framing;

@@ -4,6 +4,8 @@
 // Read `call` first, which does a call by value; `one` has a function for each call, and `words` the
 // words of the answers. The numbers of the calls stand in specs/Call.antt, the words in
 // specs/Words.antt.
+#![tactic(auto)]
+
 ghost use Rattle.std.specs.Prelude.{◌≡◌, length};
 ghost use Rattle.calls.specs.Call.{called, called_store};
 

@@ -3,6 +3,8 @@
 //
 // Read `args::Words` first: where the words of a line stand. `answer` puts an answer together;
 // `frames` has the commands `fpdu`, `unframe`, `startup` and `unstartup`.
+#![tactic(auto)]
+
 pub mod answer;
 pub mod args;
 pub mod frames;

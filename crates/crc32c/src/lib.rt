@@ -3,6 +3,8 @@
 // bytes from the crate `crc_halves` for a short slice and eight of whole bytes for a long one.
 //
 // Read `update` first; `shift`, passed on from `crc_bits`, joins the CRCs of two pieces.
+#![tactic(auto)]
+
 mod long;
 mod short;
 

@@ -2,4 +2,6 @@
 //
 // Read specs/Crc.antt first, the definition, then `join` in the module `shift`. proofs/Carry.antt has the laws that
 // others cite: a running value carried on over two pieces, and over a sum.
+#![tactic(auto)]
+
 pub mod shift;

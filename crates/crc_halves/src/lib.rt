@@ -3,6 +3,8 @@
 //
 // Read `half_4` first: the other fifteen differ from it in the number of bits alone. What an entry is, is `after` in
 // specs/Tables.antt.
+#![tactic(auto)]
+
 ghost use Rattle.std.specs.Prelude.{◌≡◌, ◌%◌};
 ghost use Rattle.crc_halves.specs.Tables.{after};
 

@@ -2,6 +2,8 @@
 // dumps (52 23 99 83 and 84 92 58 98, the least significant byte first); RFC 3720, appendix B.4, 32
 // bytes of zeros, of ones, rising, and falling; nothing at all; and the usual check value. Each is
 // computed whole, and cut in two at every place: carried on over both pieces, and joined from theirs.
+#![tactic(auto)]
+
 use crc32c::shift::join;
 use crc32c::{crc32c, update};
 use libc::STDOUT_FILENO;

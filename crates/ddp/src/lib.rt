@@ -5,6 +5,8 @@
 //
 // Read `segment::SegmentRead` first, then `tagged::judge_tagged` with `untagged::judge_untagged`, which
 // say where a segment's payload goes.
+#![tactic(auto)]
+
 pub mod header;
 pub mod place;
 pub mod refusal;

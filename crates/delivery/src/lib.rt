@@ -3,3 +3,4 @@
 // what is then promised, each under a name, specs/Promise.antt, and of the device specs/Device.antt. Read
 // then the theorems: proofs/Delivery.antt, `send-delivered` and `write-delivered`; proofs/Device.antt, the
 // same of the device; proofs/Streamed.antt, from one stream of bytes.
+#![tactic(auto)]

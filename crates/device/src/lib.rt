@@ -5,6 +5,8 @@
 // Read `receive` first, then `apply`. The contracts say that a call does with the device in the words
 // (`rnic_at` of the crate `block`) what the by-value call of the crate `rnic` does. Any words are a device,
 // and no public function has a `requires`.
+#![tactic(auto)]
+
 mod apply;
 mod judge;
 pub mod offer;

@@ -5,6 +5,8 @@
 // Read `Domain` first, then `receive`, which takes the first FPDU of some bytes for a stream: the crate
 // `arrival` does it over what it needs of the domain, and the crate `overlap` says whether two writers
 // would share a byte. The definitions, in specs/Domain.antt, are the paper's "A's book".
+#![tactic(auto)]
+
 ghost use Rattle.std.specs.Prelude.{◌≡◌, ◌<◌};
 ghost use Rattle.domain.specs.Sharing.{domain_shares, lastly};
 ghost use Rattle.domain.specs.Domain.{

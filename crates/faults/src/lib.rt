@@ -4,5 +4,7 @@
 // Read `fault::Fault` first, then `fault::find_fault`, which finds the first word of a line that is not of
 // its kind. `look` finds a byte that no command has. The definitions are in specs/Fault.antt and
 // specs/Look.antt.
+#![tactic(auto)]
+
 pub mod fault;
 pub mod look;

@@ -3,6 +3,8 @@
 //
 // `line` reads a line, `text` writes an answer, `run` takes the bytes that were read, and `input` reads
 // and writes them. Nothing grows with a line's length or with their number.
+#![tactic(auto)]
+
 ghost use Rattle.std.specs.Prelude.{◌≡◌, length};
 
 mod input;

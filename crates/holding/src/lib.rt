@@ -5,6 +5,8 @@
 // Read `OfferAnswer` first, then `gather`, which puts a call's bytes behind those held in the stream's
 // room. The definitions are in specs/Pending.antt and specs/Offer.antt; the crate `device` does offers
 // on a device. `receive` is a domain's receive, which is refused while its stream holds bytes.
+#![tactic(auto)]
+
 ghost use Rattle.std.specs.Prelude.{◌≡◌};
 ghost use Rattle.holding.specs.Offer.{holds, domain_receives, domain_receives_bytes};
 

@@ -2,3 +2,4 @@
 // `rnic` and `calls`, and from the definition of an offer. A's book is specs/Book.antt; read then
 // proofs/Calls.antt, one call, proofs/Runs.antt, what a run is and shows, and proofs/Isolation.antt,
 // the theorem `two-nights`.
+#![tactic(auto)]

@@ -3,3 +3,4 @@
 // numbers of the crate `isolation`. Read specs/Request.antt, what a host calls, then proofs/Calls.antt,
 // one call, proofs/Runs.antt, what a run is and shows, and proofs/Isolation.antt, the theorem
 // `two-nights-in-c`.
+#![tactic(auto)]

@@ -4,6 +4,8 @@
 //
 // Read `part::Part` first, then `window::Window`, which a peer names by its STag, with `find_in` and
 // `span_of`, and `buffer::Buffers`.
+#![tactic(auto)]
+
 pub mod buffer;
 pub mod marks;
 pub mod part;

@@ -2,6 +2,8 @@
 // average in floats that follows them.
 //
 // Read `Meter` first, then `gauge`. `words` has the meter as the device keeps it.
+#![tactic(auto)]
+
 ghost use Rattle.std.specs.Prelude.{◌≡◌};
 ghost use Rattle.meter.specs.Gauge.{counted_bytes, counted_meter, new_meter, ticked_meter, reading_of};
 

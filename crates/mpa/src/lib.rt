@@ -5,6 +5,8 @@
 // Read `FpduRead` and `StartupRead` first: with `Written` of `wire` they are the answers. The
 // definitions that the contracts cite are in specs/Fpdu.antt and specs/Startup.antt, the refusals'
 // numbers in refusal. No public function has a `requires`: each answers whatever comes.
+#![tactic(auto)]
+
 pub mod fpdu;
 pub mod refusal;
 pub mod startup;

@@ -2,6 +2,8 @@
 // The device is not here.
 //
 // Read `Asked` first, then `ask`. A line's words are in the crate `command`.
+#![tactic(auto)]
+
 ghost use Rattle.std.specs.Prelude.{◌≡◌, length};
 ghost use Rattle.command.specs.Args.{line_words, word_of, words_at};
 ghost use Rattle.offering.specs.Offering.{

@@ -3,6 +3,8 @@
 //
 // Read `share` first, which compares two spans of bytes, then `windows_share` and `streams_share`. The
 // definitions are in specs/Sharing.antt.
+#![tactic(auto)]
+
 ghost use Rattle.std.specs.Prelude.{◌≡◌};
 ghost use Rattle.wire.specs.Wire.{both};
 ghost use Rattle.overlap.specs.Sharing.{either, shares, writes, window_shares, windows_share, waiting, buffers_share, streams_share};

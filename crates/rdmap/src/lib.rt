@@ -4,6 +4,8 @@
 // Read `stream::Stream` first, a stream's record in groups, each of which has its own module: `phase`,
 // `framing`, and the three queues `sends`, `read` and `terminates`. Then `message::Verdict`, what a
 // segment is judged to be, and `message::judge_tagged_segment` with `judge_untagged_segment`.
+#![tactic(auto)]
+
 pub mod framing;
 pub mod message;
 pub mod phase;

@@ -3,6 +3,8 @@
 // Read `explain` first. The crate `faults` finds a byte that no command has, and what a word is not;
 // `usage` has the words that each command takes, and `say` puts a reason together. A reason is only looked
 // for where a line is `bad` already: nothing here decides what is.
+#![tactic(auto)]
+
 ghost use Rattle.std.specs.Prelude.{◌≤◌, length};
 
 use crate::say::{add, place, quoted, start};

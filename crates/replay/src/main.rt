@@ -4,6 +4,8 @@
 // answers, and `why` says on standard error why a line is `bad`, which the crate `reasons` finds. Nothing
 // grows with the script: the device, the store, the second slice and every buffer stand in `main` and are
 // lent from there.
+#![tactic(auto)]
+
 ghost use Rattle.std.specs.Prelude.{◌≡◌, length};
 ghost use Rattle.rnic.specs.Offer.{rooms_bytes};
 

@@ -1,6 +1,8 @@
 // What a script's line is answered where it is a call of the device: the words of the call's answer, as
 // specs/Words.antt of the crate `calls` has them, put as text into a lent buffer. Read `tell` first, then
 // `tell_offer`.
+#![tactic(auto)]
+
 ghost use Rattle.std.specs.Prelude.{◌≤◌, length};
 
 use command::answer::{first, then_hex, then_number};

@@ -5,6 +5,8 @@
 // Read `Asked` first, then `ask`. `call` makes a call of a line's words, `shape` says which call a
 // name stands for, `store` shows and sets the store's bytes. A line's words, and the commands on
 // frames, are in the crate `command`, those on CRCs in `sums`, those on the startup in `starting`.
+#![tactic(auto)]
+
 ghost use Rattle.std.specs.Prelude.{true, ◌≡◌, ◌≤◌, length, get_or, eqb};
 ghost use Rattle.command.specs.Args.{words_at};
 ghost use Rattle.request.specs.Request.{answered_by, ask_device, request_of, is_silent, Says};

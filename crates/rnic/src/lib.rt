@@ -4,6 +4,8 @@
 //
 // Read `Rnic` first, then `receive`. The definitions that the contracts cite are in specs/Rnic.antt;
 // each is the owner's step of the crate `domain`, lifted. No public function has a `requires`.
+#![tactic(auto)]
+
 ghost use Rattle.std.specs.Prelude.{◌≡◌, ◌<◌, ◌≤◌, length, leb, ◌∷◌, []};
 ghost use Rattle.wire.specs.Wire.{both};
 ghost use Rattle.rnic.specs.Rnic.{

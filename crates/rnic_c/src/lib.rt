@@ -5,6 +5,8 @@
 // Read `rnic_c_call` first. The crate `calls` has the numbers of the calls and the words of the answers;
 // include/rnic.h has both for C. `message` has the writer for messages, `framing` the reader of FPDUs, and
 // `startup` the frames that open a connection and what the two sides agree by them.
+#![tactic(auto)]
+
 ghost use Rattle.std.specs.Prelude.{◌≡◌, length};
 ghost use Rattle.calls.specs.Call.{called, called_store, called_receive, called_offer};
 ghost use Rattle.rnic.specs.Offer.{rnic_offered_store, rnic_offered_rooms, held_count};

@@ -4,6 +4,8 @@
 //
 // Read `run::run_line` first, whose contract cites specs/Run.antt. `offer` runs a line on offers, and `line`
 // gathers a line's bytes. No public function has a `requires`.
+#![tactic(auto)]
+
 pub mod line;
 mod offer;
 pub mod run;

@@ -5,6 +5,8 @@
 // writes bytes as hex, and `put` copies a word. Each public function answers whatever comes: its
 // enum says what a word is or that it is none, and what does not fit is not written at all. Read
 // `word::Word`, `number::Number` and `hex::Decoded` first, and specs/ for what each answer is.
+#![tactic(auto)]
+
 pub mod hex;
 pub mod number;
 pub mod put;

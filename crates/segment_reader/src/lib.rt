@@ -4,6 +4,8 @@
 // Read `reader::SegmentReader` first. Its functions are thin: each takes it apart and calls one of
 // `field` or `header` on the slice and the place. A caller that keeps no reader has
 // `ulpdu::read_by_fields` and `ulpdu::payload_of`, whose parameters are plain.
+#![tactic(auto)]
+
 pub mod field;
 pub mod header;
 pub mod reader;

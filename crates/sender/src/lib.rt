@@ -4,6 +4,8 @@
 //
 // Read `Message` first, then `next`. The definitions are in specs/Message.antt, and how a message is cut in
 // specs/Cut.antt. No public function has a `requires`.
+#![tactic(auto)]
+
 ghost use Rattle.std.specs.Prelude.{◌≡◌, ◌+◌, ◌%◌, ◌≤◌, length};
 ghost use Rattle.wire.specs.Wire.{put, pick};
 ghost use Rattle.sender.specs.Message.{

@@ -2,6 +2,8 @@
 // after the other. The message begun last is nine words and its bytes, which the program holds and lends.
 //
 // Read `Order` first, then `run`. A line's words are in the crate `command`, the writer in `sender`.
+#![tactic(auto)]
+
 ghost use Rattle.std.specs.Prelude.{◌≡◌, ◌≤◌, min, leb, length, take};
 ghost use Rattle.wire.specs.Wire.{pick};
 ghost use Rattle.command.specs.Args.{line_words, word_of, words_at};

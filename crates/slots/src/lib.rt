@@ -5,6 +5,8 @@
 // Read `stream` first, then `sharing`. The contracts say that a call does with the device in the words
 // (`rnic_at` of the crate `block`) what the by-value call of the crate `rnic` does. Any words are a device, and
 // no public function has a `requires`. proofs/Slots.antt has the laws of a stream's groups.
+#![tactic(auto)]
+
 pub mod gauge;
 mod sharing;
 pub mod stream;

@@ -4,6 +4,8 @@
 // Read `frame::StartCommand` first: what a line asks of a frame. `said` reads the terms of a line, `frame`
 // has the commands on frames, `agree` the third. A line's words are in the crate `command`, the startup in
 // `startup2`.
+#![tactic(auto)]
+
 ghost use Rattle.std.specs.Prelude.{◌≡◌, ◌≤◌, length};
 ghost use Rattle.starting.specs.Starting.{is_start};
 

@@ -4,6 +4,8 @@
 //
 // Read `Terms`, `Form` and `FrameRead` first. The definitions that the contracts cite are in specs/Terms.antt,
 // specs/Frame.antt and specs/Agree.antt. No public function has a `requires`: each answers whatever comes.
+#![tactic(auto)]
+
 pub mod agree;
 pub mod fields;
 pub mod frame;

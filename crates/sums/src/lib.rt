@@ -3,6 +3,8 @@
 //
 // Read `answer_sum` first: what a line is answered. A line's words are in the crate `command`, the CRC
 // in `crc32c`.
+#![tactic(auto)]
+
 ghost use Rattle.std.specs.Prelude.{◌≡◌, ◌≤◌, length};
 ghost use Rattle.command.specs.Args.{words_at};
 ghost use Rattle.sums.specs.Sums.{is_sum, crc_on, crc_word, whole_sum, carried_sum, joined_sum, crc_answer, join_answer, sum_answer};

@@ -4,6 +4,8 @@
 //
 // The definitions are in specs/Wire.antt. Every function here is internal: its caller has tested
 // the lengths, as its `requires` asks.
+#![tactic(auto)]
+
 pub mod copy;
 pub mod number;
 
