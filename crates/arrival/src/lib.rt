@@ -13,7 +13,7 @@ pub mod placing;
 
 // What a taken FPDU reports: nothing; a Send that is complete, with its buffer's start, its length
 // and its opcode, and the STag that it invalidated; or a Terminate.
-#[derive(Drop)]
+#[derive(Clone, Copy)]
 pub enum Event {
     NoEvent,
     Sent {
@@ -36,7 +36,7 @@ pub enum Event {
 
 // What receive answers: how many bytes to wait for; the FPDU's total with an event; a refusal of
 // the peer's bytes, which ended the stream; or a local refusal.
-#[derive(Drop)]
+#[derive(Clone, Copy)]
 pub enum Answer {
     Wait(usize),
     Taken { total: usize, event: Event },

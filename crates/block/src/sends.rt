@@ -13,7 +13,7 @@ use rdmap::sends::Sends;
 
 // What the next segment of a Send asks of the sends: the next MSN, the opcode of a Send under way and how
 // many of its bytes are taken, how many buffers wait, and the one that is filled.
-#[derive(Drop)]
+#[derive(Clone, Copy)]
 pub struct Head {
     pub msn: u32,
     pub opcode: u8,

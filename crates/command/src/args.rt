@@ -17,7 +17,7 @@ const MAX_NUMBERS: usize = 9;
 
 // Where the first words of a line stand, each from its start up to, not with, its end, and how many
 // they are. A line with more words than a command has is as good as one with 11.
-#[derive(Drop)]
+#[derive(Clone, Copy)]
 pub struct Words {
     pub starts: [usize; 11],
     pub ends: [usize; 11],

@@ -16,7 +16,7 @@ use wire::Written;
 use wire::copy::same;
 
 // A command on frames, without the bytes that it is on; Bad where a line is none of them.
-#[derive(Drop)]
+#[derive(Clone, Copy)]
 pub enum FrameCommand {
     Fpdu {
         room: u64,

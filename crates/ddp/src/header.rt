@@ -28,7 +28,7 @@ pub struct TaggedHeader {
 }
 
 // The header of an untagged segment; stag is the one to invalidate.
-#[derive(Drop)]
+#[derive(Clone, Copy)]
 pub struct UntaggedHeader {
     pub last: bool,
     pub control: u8,

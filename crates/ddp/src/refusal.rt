@@ -6,7 +6,7 @@ pub const NO_ROOM: u8 = 13;
 // Peer refusals of framing and placement: the rows 20 to 32, each with the layer, error type and code
 // with which the stream ends.
 #[repr(C)]
-#[derive(Drop)]
+#[derive(Clone, Copy)]
 pub struct Refusal {
     pub number: u8,
     pub layer: u8,

@@ -40,7 +40,7 @@ use rdmap::stream::{CloseAnswer, StateAnswer, Stream, TakeAnswer, closed_stream}
 
 // What a domain holds.
 #[repr(C)]
-#[derive(Drop)]
+#[derive(Clone, Copy)]
 pub struct Domain {
     pub part: Part,
     pub windows: [Window; 16],

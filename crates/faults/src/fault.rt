@@ -11,7 +11,7 @@ use script::number::{Number, read_number};
 // What is wrong with a word: nothing; it is no number, or one over 64 bits; no hex, or an odd count of
 // digits; no CRC; neither `on` nor `off`, neither `req` nor `rep`, neither 0 nor 1, neither `write` nor
 // `send`.
-#[derive(Drop)]
+#[derive(Clone, Copy)]
 pub enum Fault {
     Nothing,
     Number,

@@ -6,7 +6,7 @@ ghost use Rattle.gauge.specs.Line.{digit_after, with_byte};
 const LAST: u64 = 0xFFFF_FFFF;
 
 // No byte yet, digits alone and their number, or no sample, whatever comes after.
-#[derive(Drop)]
+#[derive(Clone, Copy)]
 pub enum Line {
     Empty,
     Value(u32),

@@ -14,7 +14,7 @@ pub const ROOMS: usize = 16 * ROOM;
 
 // What is pending: too little, and then so many bytes are held; or enough, of which the first so many are
 // received.
-#[derive(Drop)]
+#[derive(Clone, Copy)]
 pub enum Gathered {
     Short(u32),
     Enough(usize),

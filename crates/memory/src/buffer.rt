@@ -7,7 +7,7 @@ use crate::refusal::{BAD_PLACE, BUFFERS_FULL};
 
 // One buffer: where it starts in the store, and how many bytes it holds.
 #[repr(C)]
-#[derive(Drop)]
+#[derive(Clone, Copy)]
 pub struct Buffer {
     pub start: u32,
     pub len: u32,
@@ -15,7 +15,7 @@ pub struct Buffer {
 
 // The buffers that wait, the oldest first; zeros past the count.
 #[repr(C)]
-#[derive(Drop)]
+#[derive(Clone, Copy)]
 pub struct Buffers {
     pub count: u32,
     pub entries: [Buffer; 8],

@@ -4,14 +4,14 @@ ghost use Rattle.memory.specs.Part.{in_part, part_fits};
 
 // The bytes from start up to end are the domain's.
 #[repr(C)]
-#[derive(Drop)]
+#[derive(Clone, Copy)]
 pub struct Part {
     pub start: u32,
     pub end: u32,
 }
 
 // A local call is done, or refused with the number of the refusal.
-#[derive(Drop)]
+#[derive(Clone, Copy)]
 pub enum Outcome {
     Done,
     Refused(u8),

@@ -9,7 +9,7 @@ use crate::refusal::{BAD_PLACE, KEY_AGAIN, OUT_OF_RANGE, WINDOW_LIVE, WINDOW_NOT
 
 // One window. A dead one keeps its last key (0: it never had one), and zeros beside.
 #[repr(C)]
-#[derive(Drop)]
+#[derive(Clone, Copy)]
 pub struct Window {
     pub live: bool,
     pub key: u8,

@@ -3,7 +3,7 @@ ghost use Rattle.std.specs.Prelude.{◌≡◌};
 ghost use Rattle.meter.specs.Gauge.{sampled_gauge, reading_of};
 
 // The level goes an eighth of the way to each later sample. The peak is the highest level so far.
-#[derive(Drop)]
+#[derive(Clone, Copy)]
 pub struct Gauge {
     pub level: f64,
     pub peak: f64,

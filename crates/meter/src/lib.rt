@@ -16,7 +16,7 @@ pub mod words;
 const LAST: u32 = 0xFFFF_FFFF;
 
 // The bytes placed since the last tick, whether there was a tick, and the gauge.
-#[derive(Drop)]
+#[derive(Clone, Copy)]
 pub struct Meter {
     pub count: u32,
     pub ticked: bool,

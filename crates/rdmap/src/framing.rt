@@ -4,7 +4,7 @@ ghost use Rattle.rdmap.specs.Framing.{no_framing, new_framing};
 
 // Whether the frames' CRC is looked at, and how many bytes of an FPDU that is not complete the stream holds.
 #[repr(C)]
-#[derive(Drop)]
+#[derive(Clone, Copy)]
 pub struct Framing {
     pub crc: bool,
     pub held: u32,

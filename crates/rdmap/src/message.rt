@@ -46,7 +46,7 @@ pub enum Control {
 }
 
 // The STag that a Send invalidates, with the slot of its window.
-#[derive(Drop)]
+#[derive(Clone, Copy)]
 pub enum Invalidate {
     NoStag,
     Stag { slot: usize, stag: u32 },
@@ -55,7 +55,7 @@ pub enum Invalidate {
 // What a segment is judged to be: refused; an empty Write; a Write to a place of the store; a part
 // of a Send to a place, with its opcode and how many bytes are then taken; the last part, with the
 // buffer's start and the message's length; a Read Request; a Terminate.
-#[derive(Drop)]
+#[derive(Clone, Copy)]
 pub enum Verdict {
     Refused(Refusal),
     Nothing,

@@ -8,7 +8,7 @@ use ddp::refusal::Refusal;
 // beside it; 3 ended by the peer's Terminate. One that is ended is still open until it is closed. The
 // refusal is zeros but in 2. Numbers and no enum, since a device that a C program holds may have none.
 #[repr(C)]
-#[derive(Drop)]
+#[derive(Clone, Copy)]
 pub struct Phase {
     pub state: u8,
     pub refusal: Refusal,

@@ -15,7 +15,7 @@ use wire::number::{get_be32, get_be64};
 
 // One Read Request (RFC 5040, section 4.4): where the peer wants the bytes, how many, and from where.
 #[repr(C)]
-#[derive(Drop)]
+#[derive(Clone, Copy)]
 pub struct ReadRequest {
     pub sink_stag: u32,
     pub sink_to: u64,
@@ -26,7 +26,7 @@ pub struct ReadRequest {
 
 // The next MSN, and the requests that wait, in the order in which they came; zeros past the count.
 #[repr(C)]
-#[derive(Drop)]
+#[derive(Clone, Copy)]
 pub struct Reads {
     pub msn: u32,
     pub count: u32,

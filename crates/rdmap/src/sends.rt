@@ -16,7 +16,7 @@ use memory::part::{Outcome, Part};
 // The next MSN, the opcode of a Send under way (0: none), how many of its bytes are taken, and the
 // buffers that wait.
 #[repr(C)]
-#[derive(Drop)]
+#[derive(Clone, Copy)]
 pub struct Sends {
     pub msn: u32,
     pub opcode: u8,

@@ -33,7 +33,7 @@ use memory::part::{Outcome, Part};
 
 // Where it stands, how its bytes are read as frames, and what its three queues keep.
 #[repr(C)]
-#[derive(Drop)]
+#[derive(Clone, Copy)]
 pub struct Stream {
     pub phase: Phase,
     pub framing: Framing,

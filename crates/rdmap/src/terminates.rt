@@ -6,7 +6,7 @@ use ddp::untagged::{Queue, next_msn};
 
 // The next MSN.
 #[repr(C)]
-#[derive(Drop)]
+#[derive(Clone, Copy)]
 pub struct Terminates {
     pub msn: u32,
 }

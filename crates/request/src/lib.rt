@@ -27,7 +27,7 @@ mod store;
 // text, or by nothing where that is 0. Else it is the call `number` of the crate `calls` with these
 // numbers, the first `size` of the buffer's bytes and the first `lent` of the store's; `kept` is what
 // is lent from then on by a line that does not say.
-#[derive(Drop)]
+#[derive(Clone, Copy)]
 pub struct Asked {
     pub call: bool,
     pub count: usize,

@@ -38,7 +38,7 @@ use rdmap::stream::{CloseAnswer, StateAnswer, TakeAnswer};
 
 // The length of the store, and the four domains.
 #[repr(C)]
-#[derive(Drop)]
+#[derive(Clone, Copy)]
 pub struct Rnic {
     pub len: u32,
     pub domains: [Domain; 4],

@@ -9,7 +9,7 @@ use crate::field::{Be32Field, Be64Field, ByteField};
 use ddp::header::HeaderRead;
 
 // The bytes of a ULPDU, and the place of the next one to read.
-#[derive(Drop)]
+#[derive(Clone, Copy)]
 pub struct SegmentReader<'a> {
     pub bytes: &'a [u8],
     pub at: usize,

@@ -36,7 +36,7 @@ pub mod words;
 // A message under way: what its headers say, the largest ULPDU, how long it is, how many of its bytes are
 // written, and whether its last segment is.
 #[repr(C)]
-#[derive(Drop)]
+#[derive(Clone, Copy)]
 pub struct Message {
     pub tagged: bool,
     pub opcode: u8,
@@ -50,14 +50,14 @@ pub struct Message {
 }
 
 // What beginning a message answers.
-#[derive(Drop)]
+#[derive(Clone, Copy)]
 pub enum Begun {
     Ready(Message),
     Refused(u8),
 }
 
 // What asking for the next segment answers: its length; that there is none after the last; or a refusal.
-#[derive(Drop)]
+#[derive(Clone, Copy)]
 pub enum Segment {
     Wrote(usize),
     Done,

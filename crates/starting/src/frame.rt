@@ -17,7 +17,7 @@ use wire::Written;
 use wire::copy::same;
 
 // A command on startup frames, without the bytes that it is on; Bad where a line is none of them.
-#[derive(Drop)]
+#[derive(Clone, Copy)]
 pub enum StartCommand {
     Write {
         reply: bool,

@@ -14,7 +14,7 @@ pub mod refusal;
 // What a side says of itself: whether the connection is peer to peer (A), how many reads it takes at a time
 // (IRD) and makes at a time (ORD), and the kinds of a first message that it can do: 4 for Send (B), 2 for Write
 // (C) and 1 for Read (D), added. 0x3FFF for a depth says that it is not negotiated here.
-#[derive(Drop)]
+#[derive(Clone, Copy)]
 pub struct Terms {
     pub peer: bool,
     pub ird: u64,
@@ -24,7 +24,7 @@ pub struct Terms {
 
 // The form of a startup frame: of revision 1; of revision 2 with S clear; or with S set, so that the private
 // data starts with the side's terms.
-#[derive(Drop)]
+#[derive(Clone, Copy)]
 pub enum Form {
     First,
     Second,
