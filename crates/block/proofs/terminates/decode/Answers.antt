@@ -1,0 +1,6 @@
+-- `decode` meets its contract: each field is what a callee or a word says.
+use borrow.Author.Rules.{rules}
+use Rattle.block.proofs.terminates.decode.Goals as goal
+
+pub returns : goal.returns
+returns c = λ i. record { msn = c.lower.ensures i }

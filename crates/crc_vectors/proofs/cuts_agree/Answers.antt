@@ -1,0 +1,9 @@
+-- `cuts_agree` ends: the place moves on up to the bytes' end.
+use Prim.Native.Nat.{◌-◌, ◌≤◌, zero-le}
+use native.Mathlib.Omega.{arith}
+use lib.ListN.{length}
+use borrow.Author.Rules.{rules}
+use Rattle.crc_vectors.proofs.cuts_agree.Goals as goal
+
+pub loop-cut-init : goal.loop-cut-init
+loop-cut-init c = zero-le

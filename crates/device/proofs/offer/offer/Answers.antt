@@ -1,0 +1,39 @@
+-- `offer` meets its contract: the number and the lengths decide, and the rest is `offer_owned`.
+use mathlib.Core.Path.{sym, ◌∙◌}
+use borrow.Author.Tests.{le-leb, lt-leb, eq-eqb, ne_eqb}
+use Rattle.rnic.specs.Offer.{rnic_offered, rnic_offered_store, rnic_offered_rooms}
+use Rattle.block.proofs.Stored.{len_at}
+use borrow.Author.Rules.{rules}
+use Rattle.device.proofs.offer.offer.Goals as goal
+
+pub returns-then-rooms-eq-ROOMS : goal.returns-then-rooms-eq-ROOMS
+unfolding rnic_offered rnic_offered_store rnic_offered_rooms
+returns-then-rooms-eq-ROOMS c =
+    let a = c.args in
+    let h = le-leb _ _ c.if-stream-le15.true in
+    let k = eq-eqb _ _ (c.if-store-len.true ∙ c.load_len-len.ensures ∙ sym (len_at a.words.now)) in
+    let m = eq-eqb _ _ c.if-rooms-eq-ROOMS.true in
+    (simp (h, k, m) c.offer_owned.ensures.0, simp (h, k, m) c.offer_owned.ensures.1, simp (h, k, m) c.offer_owned.ensures.2, simp (h, k, m) c.offer_owned.ensures.3)
+
+pub returns-then-store-len : goal.returns-then-store-len
+unfolding rnic_offered rnic_offered_store rnic_offered_rooms
+returns-then-store-len c =
+    let a = c.args in
+    let h = le-leb _ _ c.if-stream-le15.true in
+    let k = eq-eqb _ _ (c.if-store-len.true ∙ c.load_len-len.ensures ∙ sym (len_at a.words.now)) in
+    let m = ne_eqb _ _ c.if-rooms-eq-ROOMS.false in
+    (simp (h, k, m) c.refused_words.ensures, simp (h, k, m), simp (h, k, m), simp (h, k, m))
+
+pub returns-then-stream-le15 : goal.returns-then-stream-le15
+unfolding rnic_offered rnic_offered_store rnic_offered_rooms
+returns-then-stream-le15 c =
+    let a = c.args in
+    let h = le-leb _ _ c.if-stream-le15.true in
+    let k = ne_eqb _ _ (λ e. c.if-store-len.false (e ∙ len_at a.words.now ∙ sym c.load_len-len.ensures)) in
+    (simp (h, k) c.refused_words-then-stream-le15.ensures, simp (h, k), simp (h, k), simp (h, k))
+
+pub returns : goal.returns
+unfolding rnic_offered rnic_offered_store rnic_offered_rooms
+returns c =
+    let h = lt-leb _ _ c.if-stream-le15.false in
+    (simp h c.refused_words-2.ensures, simp h, simp h, simp h)

@@ -1,0 +1,6 @@
+-- `start` meets its contract.
+use borrow.Author.Rules.{rules}
+use Rattle.gauge.proofs.run.start.Goals as goal
+
+pub returns : goal.returns
+returns c = rw c.new_meter.ensures

@@ -1,0 +1,15 @@
+-- `gather` meets its contract. The invariant: the marks so far are those of the windows from i on.
+use Prim.Native.Nat.{ℕ, ◌+◌, ◌-◌, ◌≤◌}
+use mathlib.Core.Path.{◌≡◌, sym, ap, ◌∙◌}
+use native.Mathlib.Omega.{arith}
+use lib.ListN.{length, drop}
+use Rattle.memory.specs.Marks.{live_marks}
+use Rattle.memory.proofs.LiveMarks.{marks_step, marks_none}
+use borrow.Author.Rules.{rules}
+use Rattle.memory.proofs.window.gather.Given as goal
+
+abbrev pub invariant-loop-i : goal.invariant-loop-i
+invariant-loop-i l = (l.i ≤ 16) × (l.marks ≡ live_marks (drop l.i l.windows))
+
+abbrev pub decreases-loop-i : goal.decreases-loop-i
+decreases-loop-i l = l.i

@@ -1,0 +1,6 @@
+-- `count` meets its contract: the count is what `counted` gives.
+use borrow.Author.Rules.{rules}
+use Rattle.meter.proofs.count.Goals as goal
+
+pub returns : goal.returns
+returns c = rw c.counted.ensures

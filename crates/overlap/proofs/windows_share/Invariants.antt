@@ -1,0 +1,16 @@
+-- `windows_share` meets its contract. The invariant: what is known so far is that of the windows from i on.
+use Prim.Native.Nat.{ℕ, ◌+◌, ◌-◌, ◌≤◌}
+use mathlib.Core.Path.{◌≡◌, sym, ap, ap₂, ◌∙◌}
+use mathlib.Core.List.{List}
+use native.Mathlib.Omega.{arith}
+use lib.ListN.{length, drop}
+use Rattle.overlap.specs.Sharing.{either, windows_share}
+use Rattle.overlap.proofs.Entries.{windows_none, windows_next}
+use borrow.Author.Rules.{rules}
+use Rattle.overlap.proofs.windows_share.Given as goal
+
+abbrev pub invariant-loop-i : goal.invariant-loop-i
+invariant-loop-i l = (l.i ≤ 16) × (l.shared ≡ windows_share (drop l.i l.windows) l.place l.len)
+
+abbrev pub decreases-loop-i : goal.decreases-loop-i
+decreases-loop-i l = l.i

@@ -1,0 +1,17 @@
+-- `close` meets its contract: the phase picks the case of `closed`.
+use mathlib.Core.Path.{sym, ◌∙◌}
+use Rattle.rdmap.specs.Stream.{closed}
+use borrow.Author.Rules.{rules}
+use Rattle.rdmap.proofs.phase.Phase.is_closed.Reads as is-closed-reads
+use Rattle.rdmap.proofs.stream.closed_stream.Reads as closed-stream-reads
+use Rattle.rdmap.proofs.stream.Stream.close.Goals as goal
+
+pub returns-then-is_closed : goal.returns-then-is_closed
+unfolding closed
+returns-then-is_closed c = simp (sym c.is_closed.ensures ∙ c.if-is_closed.true)
+
+pub returns : goal.returns
+unfolding closed
+returns c =
+    let not-closed = sym c.is_closed.ensures ∙ c.if-is_closed.false in
+    simp (not-closed, c.closed_stream.ensures)

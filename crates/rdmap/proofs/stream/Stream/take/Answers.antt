@@ -1,0 +1,36 @@
+-- `take` meets its contract: a stream that is not ready keeps its record; of a ready one the test on the count picks the
+-- case of `taken_when`.
+use mathlib.Core.Path.{◌≡◌, sym, ap, ◌∙◌}
+use borrow.Author.Tests.{eq-eqb, ne_eqb}
+use Rattle.rdmap.specs.Phase.{readiness}
+use Rattle.rdmap.specs.Stream.{taken_from, taken_when}
+use Rattle.rdmap.specs.declared.phase.Readiness.TheVariants.{Ready}
+use borrow.Author.Rules.{rules}
+use Rattle.rdmap.proofs.phase.Phase.ready.Reads as ready-reads
+use Rattle.rdmap.proofs.read.Reads.first.Reads as first_reads
+use Rattle.rdmap.proofs.read.Reads.popped.Reads as popped-reads
+use Rattle.rdmap.proofs.stream.Stream.with_reads.Reads as with-reads-reads
+use Rattle.rdmap.proofs.stream.Stream.take.Goals as goal
+
+-- past the match the stream is ready
+is-ready : (t : goal.In-Ready) → readiness t.args.self.phase ≡ Ready
+is-ready t = sym t.ready.ensures ∙ t.in-Ready.is
+
+pub returns-in-NotReady : goal.returns-in-NotReady
+unfolding taken_from
+returns-in-NotReady c = ap (taken_when c.args.self) (sym c.in-NotReady.is ∙ c.ready.ensures)
+
+pub returns-then-reads-eq0 : goal.returns-then-reads-eq0
+unfolding taken_from
+returns-then-reads-eq0 c = simp (is-ready (goal.at.returns-then-reads-eq0 c).In-Ready, eq-eqb _ _ c.if-reads-eq0.true)
+
+pub returns : goal.returns
+unfolding taken_from
+returns c =
+    simp (
+      is-ready (goal.at.returns c).In-Ready,
+      ne_eqb _ _ c.if-reads-eq0.false,
+      c.first-first.ensures,
+      c.popped.ensures,
+      c.with_reads.ensures,
+    )

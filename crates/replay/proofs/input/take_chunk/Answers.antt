@@ -1,0 +1,48 @@
+-- `take_chunk` is safe and ends: a line that starts within the chunk ends within it, and the next one starts further on. The lent slices keep their lengths; the measure is what is left of the chunk.
+use Prim.Native.Nat.{ℕ, ◌-◌, ◌≤◌}
+use mathlib.Core.Path.{◌≡◌, ap}
+use mathlib.Core.Logic.{⊎_elim}
+use mathlib.Core.List.{List}
+use native.Mathlib.Omega.{arith}
+use lib.ListN.{length}
+use borrow.Author.Rules.{rules}
+use Rattle.running.proofs.Gathered.{end-within}
+use Rattle.replay.proofs.input.take_chunk.Goals as goal
+
+pub slice_bounds-add_bytes-count : goal.slice_bounds-add_bytes-count
+slice_bounds-add_bytes-count c = (end-within _ _ _ c.loop-i-test.true c.line_end-end.ensures).0
+
+pub slice_bounds-add_bytes-start : goal.slice_bounds-add_bytes-start
+slice_bounds-add_bytes-start c =
+    let w = end-within _ _ _ c.loop-i-test.true c.line_end-end.ensures in
+    omega (arith, w.0, w.1)
+
+pub slice_bounds-add_bytes-end : goal.slice_bounds-add_bytes-end
+slice_bounds-add_bytes-end c =
+    let w = end-within _ _ _ c.loop-i-test.true c.line_end-end.ensures in
+    omega (arith, w.0, w.1)
+
+pub overflow_add-i : goal.overflow_add-i
+overflow_add-i c =
+    let w = end-within _ _ _ c.loop-i-test.true c.line_end-end.ensures in
+    search rules
+
+pub loop-i-smaller : goal.loop-i-smaller
+loop-i-smaller c =
+    let w = end-within _ _ _ c.loop-i-test.true c.line_end-end.ensures in
+    search rules
+
+pub loop-i-preserved : goal.loop-i-preserved
+loop-i-preserved c =
+    let w = end-within _ _ _ c.loop-i-test.true c.line_end-end.ensures in
+    search rules
+
+pub shape_of-line : goal.shape_of-line
+shape_of-line c =
+    ⊎_elim
+    (λ w. search rules)
+    (λ w.
+    let e = ap (λ (l : List ℕ). length l) w.8 in
+    let k = w.4.kept.0 in
+    search rules)
+    c.loop-i-test.branch

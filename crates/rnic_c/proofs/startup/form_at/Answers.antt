@@ -1,0 +1,13 @@
+-- `form_at` meets its contract: the tests that led to each return say which case of `form_at` holds.
+use borrow.Author.Tests.{eq-eqb, ne_eqb}
+use borrow.Author.Rules.{rules}
+use Rattle.rnic_c.proofs.startup.form_at.Goals as goal
+
+pub returns-then-kind-eq1 : goal.returns-then-kind-eq1
+returns-then-kind-eq1 c = simp (eq-eqb _ _ c.if-kind-eq1.true)
+
+pub returns-then-kind-eq2 : goal.returns-then-kind-eq2
+returns-then-kind-eq2 c = simp (ne_eqb _ _ c.if-kind-eq1.false, eq-eqb _ _ c.if-kind-eq2.true)
+
+pub returns : goal.returns
+returns c = simp (ne_eqb _ _ c.if-kind-eq1.false, ne_eqb _ _ c.if-kind-eq2.false)

@@ -1,0 +1,6 @@
+-- `queue_of` meets its contract: the arms are the definition's cases.
+use borrow.Author.Rules.{rules}
+use Rattle.segment_reader.proofs.header.queue_of.Goals as goal
+
+pub returns : goal.returns
+returns c = simp (c.in-Value.is, c.in-Value-msn.is, c.in-Value-mo.is)

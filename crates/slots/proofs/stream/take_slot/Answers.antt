@@ -1,0 +1,39 @@
+-- `take_slot` meets its contract: the phase and the count decide, and what is stored is the queue without its head.
+use Rattle.slots.proofs.Slots.{take-refused, take_none, take_first}
+use Rattle.block.proofs.Stored.{reads_changed}
+use Rattle.block.specs.declared.reads.Tally.{Tally}
+use Rattle.block.specs.Exchange.{stream_of, with_stream_of}
+use Rattle.block.specs.Device.{rnic_at}
+use Rattle.rdmap.specs.declared.stream.TakeAnswer.TheVariants.{Read}
+use Rattle.rdmap.specs.declared.read.Reads.{Reads}
+use Rattle.rdmap.specs.Read.{first_read, popped_reads}
+use Rattle.rdmap.specs.Stream.{with_reads}
+use Rattle.rdmap.specs.Phase.{readiness}
+use borrow.Author.Tests.{eq-eqb, ne_eqb}
+use lib.Dec.{eqb}
+use mathlib.Core.Path.{◌≡◌, sym, ap, ap₂, ◌∙◌}
+use borrow.Author.Rules.{rules}
+use Rattle.slots.proofs.stream.take_slot.Goals as goal
+
+pub returns-in-NotReady : goal.returns-in-NotReady
+returns-in-NotReady c =
+    let a = c.args in
+    take-refused a.words.now a.domain a.slot c.requires.0 c.requires.1 _
+    (ap readiness (sym c.load_phase-phase.ensures) ∙ sym c.ready.ensures ∙ c.in-NotReady.is)
+
+pub returns-then-tally-eq0 : goal.returns-then-tally-eq0
+returns-then-tally-eq0 c =
+    let a = c.args in
+    take_none a.words.now a.domain a.slot c.requires.0 c.requires.1
+    (ap readiness (sym c.load_phase-phase.ensures) ∙ sym c.ready.ensures ∙ c.in-Ready.is)
+    (ap (λ (x : Tally). eqb x.count 0) (sym c.load_tally-tally.ensures) ∙ eq-eqb _ _ c.if-tally-eq0.true)
+
+pub returns : goal.returns
+returns c =
+    let a = c.args in
+    let w = a.words.now in
+    let stored = reads_changed w c.store_reads.new.words a.domain c.requires.0 (search rules) a.slot c.requires.1 c.popped.result c.store_reads.ensures.0 c.store_reads.ensures.1 in
+    let e = ap (λ (x : Tally). eqb x.count 0) (sym c.load_tally-tally.ensures) ∙ ne_eqb _ _ c.if-tally-eq0.false in
+    let ready = ap readiness (sym c.load_phase-phase.ensures) ∙ sym c.ready.ensures ∙ c.in-Ready.is in
+    let done = take_first w a.domain a.slot c.requires.0 c.requires.1 c.store_reads.new.words ready e (stored ∙ ap (λ (x : Reads). with_stream_of (rnic_at w) a.domain a.slot (with_reads (stream_of (rnic_at w) a.domain a.slot) x)) (c.popped.ensures ∙ ap popped_reads c.load_reads-reads.ensures)) in
+    (ap Read (c.first-first.ensures ∙ ap first_read c.load_reads-reads.ensures) ∙ done.0, done.1)

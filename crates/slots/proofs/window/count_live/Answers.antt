@@ -1,0 +1,12 @@
+-- `count_live` meets its contract: as many marks are set as windows are live.
+use mathlib.Core.Path.{ap, ◌∙◌}
+use lib.Count.{ones}
+use Rattle.memory.proofs.LiveMarks.{ones-live}
+use Rattle.slots.proofs.Windows.{windows_of}
+use borrow.Author.Rules.{rules}
+use Rattle.slots.proofs.window.count_live.Goals as goal
+
+pub returns : goal.returns
+returns c =
+    let a = c.args in
+    c.count.ensures ∙ ap ones c.load_marks.ensures ∙ ones-live (windows_of a.words.now a.domain)

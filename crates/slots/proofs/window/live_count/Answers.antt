@@ -1,0 +1,16 @@
+-- `live_count` meets its contract: the number decides.
+use Rattle.rnic.specs.declared.Count.TheVariants.{Counted}
+use Rattle.rnic.specs.Rnic.{rnic_live}
+use borrow.Author.Tests.{le-leb, lt-leb}
+use Prim.Native.Nat.{ℕ}
+use mathlib.Core.Path.{ap}
+use borrow.Author.Rules.{rules}
+use Rattle.slots.proofs.window.live_count.Goals as goal
+
+pub returns-then-number-le3 : goal.returns-then-number-le3
+unfolding rnic_live
+returns-then-number-le3 c = simp (le-leb _ _ c.if-number-le3.true) (ap (λ (n : ℕ). Counted n) c.count_live.ensures)
+
+pub returns : goal.returns
+unfolding rnic_live
+returns c = simp (lt-leb _ _ c.if-number-le3.false)

@@ -1,0 +1,6 @@
+-- `kept` meets its contract, field by field.
+use borrow.Author.Rules.{rules}
+use Rattle.startup2.proofs.agree.kept.Goals as goal
+
+pub returns : goal.returns
+returns c = simp (c.kind_of.ensures, c.kinds_of-2.ensures, c.kinds_of.ensures, c.capped.ensures)

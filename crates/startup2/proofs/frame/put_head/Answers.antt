@@ -1,0 +1,26 @@
+-- `put_head` meets its contract: the writes, each where the one before ends, are one.
+use Prim.Native.Nat.{ℕ}
+use mathlib.Core.List.{List}
+use mathlib.Core.Path.{ap, ◌∙◌}
+use native.Mathlib.Omega.{arith}
+use lib.ListN.{set, length-set}
+use borrow.Author.Rules.{rules}
+use Rattle.wire.specs.Wire.{put, be16}
+use Rattle.startup2.proofs.Puts.{head_put}
+use Rattle.startup2.proofs.frame.put_head.Goals as goal
+
+pub bounds-out-17 : goal.bounds-out-17
+bounds-out-17 c = simp length-set (omega arith)
+
+pub put_be16-requires : goal.put_be16-requires
+put_be16-requires c = (c.requires.0, simp length-set (omega arith))
+
+pub shape_of-out : goal.shape_of-out
+shape_of-out c = c.put_be16.auto.out ∙ simp length-set c.copy.auto.dst
+
+pub returns : goal.returns
+returns c =
+    let a = c.args in
+    c.put_be16.ensures
+    ∙ ap (λ (z : List ℕ). put (set (set z 16 a.flags) 17 2) 18 (be16 a.n)) (c.copy.ensures ∙ ap (λ (k : List ℕ). put a.out.now 0 k) c.key_of-key.ensures)
+    ∙ head_put a.reply a.flags a.n a.out.now c.requires.1
