@@ -13,7 +13,7 @@ unfolding domain_received domain_received_bytes
 returns-then-slot-le3 c =
     let a = c.args in
     let h = le-leb _ _ c.if-slot-le3.true in
-    (simp (h, c.with_stream-next.ensures, c.kill-after.ensures, c.meter_after-counted.ensures, c.segment_count.ensures) (ap (λ (r : PartsReceived). metered_of (segment_read (stream_at a.t1 a.slot).framing.crc a.bytes.now) (lifted a.t1 a.slot r)) c.receive_parts-done.ensures.0), simp h c.receive_parts-done.ensures.1)
+    (simp (h, c.with_stream-next.ensures, c.kill-after.ensures, c.meter_after-counted.ensures, c.segment_count.ensures) (ap (λ (r : PartsReceived). metered_of (segment_read (stream_at a.d a.slot).framing.crc a.bytes.now) (lifted a.d a.slot r)) c.receive_parts-done.ensures.0), simp h c.receive_parts-done.ensures.1)
 
 pub returns : goal.returns
 unfolding domain_received domain_received_bytes

@@ -73,33 +73,33 @@ slice_bounds-place_by-end-in-Untagged c = omega (arith, untagged-ends (goal.at.s
 pub returns-in-Wait : goal.returns-in-Wait
 returns-in-Wait c =
     let a = c.args in
-    answers a.part a.t2 a.number a.s a.bytes.now a.store.now
+    answers a.part a.windows a.number a.s a.bytes.now a.store.now
     (sym c.in-Wait.is ∙ c.read_segment.ensures)
     (refl, refl)
 
 pub returns-in-Refused : goal.returns-in-Refused
 returns-in-Refused c =
     let a = c.args in
-    answers a.part a.t2 a.number a.s a.bytes.now a.store.now
+    answers a.part a.windows a.number a.s a.bytes.now a.store.now
     (sym c.in-Refused.is ∙ c.read_segment.ensures)
     (refl, refl)
 
 pub returns-in-Tagged : goal.returns-in-Tagged
 returns-in-Tagged c =
     let a = c.args in
-    answers a.part a.t2 a.number a.s a.bytes.now a.store.now
+    answers a.part a.windows a.number a.s a.bytes.now a.store.now
     (sym c.in-Tagged.is ∙ c.read_segment.ensures)
-    (judged a.part a.t2 a.number a.s a.bytes.now a.store.now c.in-Tagged.total c.in-Tagged.start c.in-Tagged.len
+    (judged a.part a.windows a.number a.s a.bytes.now a.store.now c.in-Tagged.total c.in-Tagged.start c.in-Tagged.len
     (c.judge_tagged_segment-verdict.ensures
-    ∙ ap (λ (n : ℕ). tagged_verdict (window_at a.t2 n) a.number c.in-Tagged.header c.in-Tagged.len) c.slot_named.ensures)
+    ∙ ap (λ (n : ℕ). tagged_verdict (window_at a.windows n) a.number c.in-Tagged.header c.in-Tagged.len) c.slot_named.ensures)
     c.place_by.ensures)
 
 pub returns-in-Untagged : goal.returns-in-Untagged
 returns-in-Untagged c =
     let a = c.args in
-    answers a.part a.t2 a.number a.s a.bytes.now a.store.now
+    answers a.part a.windows a.number a.s a.bytes.now a.store.now
     (sym c.in-Untagged.is ∙ c.read_segment.ensures)
-    (judged a.part a.t2 a.number a.s a.bytes.now a.store.now c.in-Untagged.total c.in-Untagged.start c.in-Untagged.len
+    (judged a.part a.windows a.number a.s a.bytes.now a.store.now c.in-Untagged.total c.in-Untagged.start c.in-Untagged.len
     (c.judge_untagged-verdict.ensures
-    ∙ ap (untagged a.t2 a.number a.s c.in-Untagged.header) (lent a.bytes.now c.in-Untagged.start c.in-Untagged.len))
+    ∙ ap (untagged a.windows a.number a.s c.in-Untagged.header) (lent a.bytes.now c.in-Untagged.start c.in-Untagged.len))
     c.place_by-in-Untagged.ensures)

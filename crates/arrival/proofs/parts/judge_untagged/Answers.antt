@@ -24,7 +24,7 @@ pub returns : goal.returns
 returns c =
     let a = c.args in
     c.judge_untagged_segment.ensures
-    ∙ ap₂ (λ (q : Queue) (b : Buffer). judged (window_at a.t1 c.slot_named.result) a.number a.s q b a.h a.payload.now)
+    ∙ ap₂ (λ (q : Queue) (b : Buffer). judged (window_at a.windows c.slot_named.result) a.number a.s q b a.h a.payload.now)
     c.queue_of-q.ensures c.current-b.ensures
-    ∙ ap (λ (slot : ℕ). judged (window_at a.t1 slot) a.number a.s (queue_of a.s a.h.qn) (current_buffer a.s.sends) a.h a.payload.now)
+    ∙ ap (λ (slot : ℕ). judged (window_at a.windows slot) a.number a.s (queue_of a.s a.h.qn) (current_buffer a.s.sends) a.h a.payload.now)
     (c.slot_named.ensures ∙ ap slot_named c.stag_named.ensures)

@@ -15,4 +15,4 @@ unfolding dropped
 returns c =
     let a = c.args in
     simp (le-leb _ _ c.if-slot-gt15.false)
-    (c.entered.ensures ∙ ap (entering a.t1 a.slot) c.drop_in-done.ensures)
+    (c.entered.ensures ∙ ap (entering a.windows a.slot) c.drop_in-done.ensures)

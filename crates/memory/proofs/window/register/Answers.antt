@@ -15,4 +15,4 @@ unfolding registered
 returns c =
     let a = c.args in
     simp (le-leb _ _ c.if-slot-gt15.false)
-    (c.entered.ensures ∙ ap (entering a.t1 a.slot) c.register_in-done.ensures)
+    (c.entered.ensures ∙ ap (entering a.windows a.slot) c.register_in-done.ensures)

@@ -20,7 +20,7 @@ text-some [] h = absurd (h refl)
 text-some (b ∷ l) h = refl
 
 pub returns-then-bytes-eq0 : goal.returns-then-bytes-eq0
-returns-then-bytes-eq0 c = let whole = put_same _ _ (text-none _ c.if-bytes-eq0.true) c.put_word.ensures in record { next = whole.0; bytes = whole.1 }
+returns-then-bytes-eq0 c = let whole = put_same _ _ (text-none _ c.if-bytes-eq0.true) (c.put_word.ensures.next, c.put_word.ensures.bytes) in record { next = whole.0; bytes = whole.1 }
 
 pub returns : goal.returns
-returns c = let whole = put_same _ _ (text-some _ c.if-bytes-eq0.false) c.put_digits.ensures in record { next = whole.0; bytes = whole.1 }
+returns c = let whole = put_same _ _ (text-some _ c.if-bytes-eq0.false) (c.put_digits.ensures.next, c.put_digits.ensures.bytes) in record { next = whole.0; bytes = whole.1 }
