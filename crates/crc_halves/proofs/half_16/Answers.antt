@@ -70,4 +70,4 @@ returns-in-14 c = ap (after 16) (sym c.in-14.is)
 
 pub returns-in_default : goal.returns-in_default
 unfolding after crc_bit xor32
-returns-in_default c = ap (after 16) (last_arm (c.args.x % 16) (omega arith) c.in_default.rest)
+returns-in_default c = ap (after 16) (last_arm (c.args.x % 16) (omega arith) c.in_default.in_default-own.rest)

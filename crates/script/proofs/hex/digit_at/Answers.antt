@@ -6,9 +6,6 @@ use Prim.Native.Nat.{◌/◌}
 use Rattle.script.proofs.Pairs.{high_at, low_at}
 use Rattle.script.proofs.hex.digit_at.Goals as goal
 
-pub digit_of-requires : goal.digit_of-requires
-digit_of-requires c = omega (arith, c.before.shared-slice-known2.given (c.args.j / 2))
-
 pub returns-then-j-eq0 : goal.returns-then-j-eq0
 returns-then-j-eq0 c = c.digit_of.ensures ∙ sym (high_at _ c.args.j c.requires c.if-j-eq0.true)
 

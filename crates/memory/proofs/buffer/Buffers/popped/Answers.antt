@@ -2,7 +2,7 @@
 -- and the empty one.
 use Prim.Native.Nat.{◌-◌}
 use mathlib.Core.Path.{◌≡◌}
-use lib.ListN.{length, length-map}
+use lib.ListN.{length}
 use Rattle.memory.specs.Buffer.{popped_of, no_buffer}
 use Rattle.memory.proofs.Laws.{shifted}
 use borrow.Author.Rules.{rules}
@@ -17,6 +17,6 @@ pub returns : goal.returns
 unfolding popped_of
 returns c =
     let b = c.args.self in
-    let long : length b.entries ≡ 8 = simp length-map at c.well_formed.0.1.1.1.0.1.0.1 in
+    let long : length b.entries ≡ 8 = c.well_formed.0.1.1.1.0.1.0.1 in
     simp (ne_eqb _ _ c.if-count-eq0.false)
     (λ i. record { count = b.count - 1; entries = shifted no_buffer no_buffer b.entries long i })
