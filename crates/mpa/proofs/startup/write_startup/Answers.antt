@@ -28,5 +28,5 @@ pub returns : goal.returns
 unfolding startup_written startup_out
 returns c =
     let a = c.args in
-    written _ _ a.out.now (startup_of a.reply a.crc a.declined a.private-data.now) _ c.write_whole.ensures
+    written _ _ a.out.now (startup_of a.reply a.crc a.declined a.private_data.now) _ c.write_whole.ensures
     (simp (sym c.request_declines.ensures ∙ c.if-request_declines.false, le-ltb _ _ c.if-n-gt-MAX_PRIVATE_DATA.false, le-ltb _ _ c.if-out-total.false))

@@ -28,8 +28,8 @@ shape_of-out c =
 pub returns : goal.returns
 returns c =
     let a = c.args in
-    let n = length a.private-data.now in
+    let n = length a.private_data.now in
     c.copy-2.ensures
-    ∙ ap (λ (z : List ℕ). put z 20 a.private-data.now) c.put_be16.ensures
-    ∙ ap₂ (λ (z : List ℕ) (f : ℕ). put (put (set (set z 16 f) 17 1) 18 (be16 n)) 20 a.private-data.now) (c.copy.ensures ∙ ap (λ (k : List ℕ). put a.out.now 0 k) c.key_of-key.ensures) c.flags_of.ensures
-    ∙ startup_put a.reply a.crc a.declined a.out.now a.private-data.now (omega (arith, c.requires))
+    ∙ ap (λ (z : List ℕ). put z 20 a.private_data.now) c.put_be16.ensures
+    ∙ ap₂ (λ (z : List ℕ) (f : ℕ). put (put (set (set z 16 f) 17 1) 18 (be16 n)) 20 a.private_data.now) (c.copy.ensures ∙ ap (λ (k : List ℕ). put a.out.now 0 k) c.key_of-key.ensures) c.flags_of.ensures
+    ∙ startup_put a.reply a.crc a.declined a.out.now a.private_data.now (omega (arith, c.requires))

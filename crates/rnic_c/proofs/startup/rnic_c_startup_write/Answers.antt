@@ -13,7 +13,7 @@ returns-then-is_form c =
     let a = c.args in
     let w = a.frame.now in
     let is = sym c.is_form.ensures ∙ c.if-is_form.true in
-    (simp (is) (c.written_words.ensures ∙ ap written_words (c.write_frame-written.ensures.0 ∙ ap (λ t. frame_written (is_set a.reply) (is_set (get_or w 4 0)) t (length a.private-data.now) (length a.out.now)) c.form_at-form.ensures)), simp (is) (c.write_frame-written.ensures.1 ∙ ap (λ t. frame_out (is_set a.reply) (is_set (get_or w 3 0)) (is_set (get_or w 4 0)) t a.private-data.now a.out.now) c.form_at-form.ensures))
+    (simp (is) (c.written_words.ensures ∙ ap written_words (c.write_frame-written.ensures.0 ∙ ap (λ t. frame_written (is_set a.reply) (is_set (get_or w 4 0)) t (length a.private_data.now) (length a.out.now)) c.form_at-form.ensures)), simp (is) (c.write_frame-written.ensures.1 ∙ ap (λ t. frame_out (is_set a.reply) (is_set (get_or w 3 0)) (is_set (get_or w 4 0)) t a.private_data.now a.out.now) c.form_at-form.ensures))
 
 pub returns : goal.returns
 unfolding form_written form_out

@@ -21,20 +21,20 @@ overflow_add-flags_of c = omega (arith, c.flags_of.ensures, flags_small c.args.c
 pub put_head-requires : goal.put_head-requires
 put_head-requires c =
     let a = c.args in
-    let k : Admitted a.reply a.declined (4 + length a.private-data.now) (length a.out.now) _ = admitted a.reply a.declined (4 + length a.private-data.now) (length a.out.now) _ (sym c.admit.ensures ∙ c.in-Length.is) in
+    let k : Admitted a.reply a.declined (4 + length a.private_data.now) (length a.out.now) _ = admitted a.reply a.declined (4 + length a.private_data.now) (length a.out.now) _ (sym c.admit.ensures ∙ c.in-Length.is) in
     (omega (arith, k.short), omega (arith, k.total, k.within))
 
 pub put_terms-requires : goal.put_terms-requires
 put_terms-requires c =
     let a = c.args in
-    let k : Admitted a.reply a.declined (4 + length a.private-data.now) (length a.out.now) _ = admitted a.reply a.declined (4 + length a.private-data.now) (length a.out.now) _ (sym c.admit.ensures ∙ c.in-Length.is) in
+    let k : Admitted a.reply a.declined (4 + length a.private_data.now) (length a.out.now) _ = admitted a.reply a.declined (4 + length a.private_data.now) (length a.out.now) _ (sym c.admit.ensures ∙ c.in-Length.is) in
     let l : length c.put_head.new.out ≡ length a.out.now = c.put_head.auto.out in
     (c.requires, omega (arith, k.total, k.within))
 
 pub copy-requires : goal.copy-requires
 copy-requires c =
     let a = c.args in
-    let k : Admitted a.reply a.declined (4 + length a.private-data.now) (length a.out.now) _ = admitted a.reply a.declined (4 + length a.private-data.now) (length a.out.now) _ (sym c.admit.ensures ∙ c.in-Length.is) in
+    let k : Admitted a.reply a.declined (4 + length a.private_data.now) (length a.out.now) _ = admitted a.reply a.declined (4 + length a.private_data.now) (length a.out.now) _ (sym c.admit.ensures ∙ c.in-Length.is) in
     let l : length c.put_terms.new.out ≡ length a.out.now = c.put_terms.auto.out ∙ c.put_head.auto.out in
     omega (arith, k.total, k.within)
 
@@ -47,8 +47,8 @@ pub returns-in-Length : goal.returns-in-Length
 returns-in-Length c =
     let a = c.args in
     let f : c.flags_of.result + 16 ≡ flags2_of a.crc a.declined true = omega (arith, c.flags_of.ensures) in
-    written _ _ a.out.now (startup2_of a.reply a.crc a.declined true (terms_of a.terms ++ a.private-data.now)) _
+    written _ _ a.out.now (startup2_of a.reply a.crc a.declined true (terms_of a.terms ++ a.private_data.now)) _
     (c.copy.ensures
-    ∙ ap (λ (z : List ℕ). put z 24 a.private-data.now) (c.put_terms.ensures ∙ ap (λ (z : List ℕ). put z 20 (terms_of a.terms)) c.put_head.ensures)
-    ∙ enhanced_put a.reply a.crc a.declined _ a.terms a.out.now a.private-data.now f)
+    ∙ ap (λ (z : List ℕ). put z 24 a.private_data.now) (c.put_terms.ensures ∙ ap (λ (z : List ℕ). put z 20 (terms_of a.terms)) c.put_head.ensures)
+    ∙ enhanced_put a.reply a.crc a.declined _ a.terms a.out.now a.private_data.now f)
     (sym c.in-Length.is ∙ c.admit.ensures)

@@ -16,13 +16,13 @@ use Rattle.startup2.proofs.frame.write_second.Goals as goal
 pub put_head-requires : goal.put_head-requires
 put_head-requires c =
     let a = c.args in
-    let k : Admitted a.reply a.declined (length a.private-data.now) (length a.out.now) _ = admitted a.reply a.declined (length a.private-data.now) (length a.out.now) _ (sym c.admit.ensures ∙ c.in-Length.is) in
+    let k : Admitted a.reply a.declined (length a.private_data.now) (length a.out.now) _ = admitted a.reply a.declined (length a.private_data.now) (length a.out.now) _ (sym c.admit.ensures ∙ c.in-Length.is) in
     (omega (arith, k.short), omega (arith, k.total, k.within))
 
 pub copy-requires : goal.copy-requires
 copy-requires c =
     let a = c.args in
-    let k : Admitted a.reply a.declined (length a.private-data.now) (length a.out.now) _ = admitted a.reply a.declined (length a.private-data.now) (length a.out.now) _ (sym c.admit.ensures ∙ c.in-Length.is) in
+    let k : Admitted a.reply a.declined (length a.private_data.now) (length a.out.now) _ = admitted a.reply a.declined (length a.private_data.now) (length a.out.now) _ (sym c.admit.ensures ∙ c.in-Length.is) in
     let l : length c.put_head.new.out ≡ length a.out.now = c.put_head.auto.out in
     omega (arith, k.total, k.within)
 
@@ -35,6 +35,6 @@ pub returns-in-Length : goal.returns-in-Length
 returns-in-Length c =
     let a = c.args in
     let f : c.flags_of.result ≡ flags2_of a.crc a.declined false = omega (arith, c.flags_of.ensures) in
-    written _ _ a.out.now (startup2_of a.reply a.crc a.declined false a.private-data.now) _
-    (c.copy.ensures ∙ ap (λ (z : List ℕ). put z 20 a.private-data.now) c.put_head.ensures ∙ second_put a.reply a.crc a.declined _ a.out.now a.private-data.now f)
+    written _ _ a.out.now (startup2_of a.reply a.crc a.declined false a.private_data.now) _
+    (c.copy.ensures ∙ ap (λ (z : List ℕ). put z 20 a.private_data.now) c.put_head.ensures ∙ second_put a.reply a.crc a.declined _ a.out.now a.private_data.now f)
     (sym c.in-Length.is ∙ c.admit.ensures)
