@@ -11,7 +11,7 @@ use Rattle.overlap.proofs.buffers_share.Goals as goal
 pub loop-i-init : goal.loop-i-init
 loop-i-init c =
     let a = c.args in
-    let long : length a.b.entries ≡ 8 = simp length-map at c.well_formed.0.1.1.1.0.1.0.1 in
+    let long : length a.b.entries ≡ 8 = c.well_formed.0.1.1.1.0.1.0.1 in
     (omega arith, sym (buffers-none a.place a.len a.b.entries a.b.count 8 (omega (arith, long))))
 
 pub loop-i-preserved : goal.loop-i-preserved
@@ -19,7 +19,7 @@ loop-i-preserved c =
     let a = c.args in
     let es = a.b.entries in
     let n = a.b.count in
-    let long : length es ≡ 8 = simp length-map at c.well_formed.0.1.1.1.0.1.0.1 in
+    let long : length es ≡ 8 = c.well_formed.0.1.1.1.0.1.0.1 in
     let back : c.loop-i.i ≡ c.loop-i.i - 1 + 1 = omega arith in (
       omega arith,
       c.either_of-shared.ensures

@@ -17,26 +17,6 @@ use Rattle.request.specs.declared.Asked.{Asked}
 use Rattle.request.proofs.Asking.{true-false, says_no_more, comment_text, empty-text, not_silent, frame-text, sum-text, start-text, device_line}
 use Rattle.request.proofs.ask.Goals as goal
 
--- the line and its first word
-abbrev line : goal.Start → List ℕ
-line c = c.args.line.now
-
-abbrev name : goal.Start → List ℕ
-name c = word_of (line_words (line c)) 0
-
--- what is known of them, in the order in which it is asked
-speaks : (c : goal.Else-words-eq0) → is_silent (line «PLACE») ≡ false
-speaks c =
-    let a = c.args in
-    not_silent a.kept (length a.bytes.now) (length a.store.now) a.line.now (sym c.is_comment.ensures ∙ c.if-is_comment.false)
-    (λ z. c.if-words-eq0.false (sym (words_count a.line.now c.split-words.result) ∙ ap length c.split-words.ensures ∙ z))
-
-no-frame : (c : goal.Else-is_frame) → is_frame (name «PLACE») ≡ false
-no-frame c = read_as is_frame (c.word.ensures ∙ ap (λ l. word_of l 0) c.split-words.ensures) c.is_frame.ensures c.if-is_frame.false
-
-no-sum : (c : goal.Else-is_sum) → is_sum (name «PLACE») ≡ false
-no-sum c = read_as is_sum (c.word-2.ensures ∙ ap (λ l. word_of l 0) c.split-words.ensures) c.is_sum.ensures c.if-is_sum.false
-
 pub returns-then-is_comment : goal.returns-then-is_comment
 returns-then-is_comment c =
     let a = c.args in
@@ -63,7 +43,7 @@ returns-then-words-eq0 c =
 pub returns-then-is_frame : goal.returns-then-is_frame
 returns-then-is_frame c =
     let a = c.args in
-    let quiet = speaks (goal.at.returns-then-is_frame c).Else-words-eq0 in
+    let quiet = (let it : is_silent (c.args.line.now) ≡ false = not_silent a.kept (length a.bytes.now) (length a.store.now) a.line.now (sym c.is_comment.ensures ∙ c.if-is_comment.false) (λ z. c.if-words-eq0.false (sym (words_count a.line.now c.split-words.result) ∙ ap length c.split-words.ensures ∙ z)) in it) in
     record {
       within = omega (arith, ap (λ (x : Asked). x.count) c.answered-then-is_frame.ensures, c.run.ensures);
       silent = (λ s. true-false (sym s ∙ quiet));
@@ -75,12 +55,12 @@ returns-then-is_frame c =
 pub returns-then-is_sum : goal.returns-then-is_sum
 returns-then-is_sum c =
     let a = c.args in
-    let quiet = speaks (goal.at.returns-then-is_sum c).Else-words-eq0 in
+    let quiet = (let it : is_silent (c.args.line.now) ≡ false = not_silent a.kept (length a.bytes.now) (length a.store.now) a.line.now (sym c.is_comment.ensures ∙ c.if-is_comment.false) (λ z. c.if-words-eq0.false (sym (words_count a.line.now c.split-words.result) ∙ ap length c.split-words.ensures ∙ z)) in it) in
     record {
       within = omega (arith, ap (λ (x : Asked). x.count) c.answered-then-is_sum.ensures, c.run-then-is_sum.ensures);
       silent = (λ s. true-false (sym s ∙ quiet));
       asks = says_no_more _ (sum-text a.kept (length a.bytes.now) (length a.store.now) a.line.now quiet
-          (no-frame (goal.at.returns-then-is_sum c).Else-is_frame)
+          ((read_as is_frame (c.word.ensures ∙ ap (λ l. word_of l 0) c.split-words.ensures) c.is_frame.ensures c.if-is_frame.false))
           (read_as is_sum (c.word-2.ensures ∙ ap (λ l. word_of l 0) c.split-words.ensures) c.is_sum.ensures c.if-is_sum.true))
           c.answered-then-is_sum.result c.run-then-is_sum.result _ a.store.now c.answered-then-is_sum.ensures;
     }
@@ -88,13 +68,13 @@ returns-then-is_sum c =
 pub returns-then-is_start : goal.returns-then-is_start
 returns-then-is_start c =
     let a = c.args in
-    let quiet = speaks (goal.at.returns-then-is_start c).Else-words-eq0 in
+    let quiet = (let it : is_silent (c.args.line.now) ≡ false = not_silent a.kept (length a.bytes.now) (length a.store.now) a.line.now (sym c.is_comment.ensures ∙ c.if-is_comment.false) (λ z. c.if-words-eq0.false (sym (words_count a.line.now c.split-words.result) ∙ ap length c.split-words.ensures ∙ z)) in it) in
     record {
       within = omega (arith, ap (λ (x : Asked). x.count) c.answered-then-is_start.ensures, c.run-then-is_start.ensures);
       silent = (λ s. true-false (sym s ∙ quiet));
       asks = says_no_more _ (start-text a.kept (length a.bytes.now) (length a.store.now) a.line.now quiet
-          (no-frame (goal.at.returns-then-is_start c).Else-is_frame)
-          (no-sum (goal.at.returns-then-is_start c).Else-is_sum)
+          ((read_as is_frame (c.word.ensures ∙ ap (λ l. word_of l 0) c.split-words.ensures) c.is_frame.ensures c.if-is_frame.false))
+          ((read_as is_sum (c.word-2.ensures ∙ ap (λ l. word_of l 0) c.split-words.ensures) c.is_sum.ensures c.if-is_sum.false))
           (read_as is_start (c.word-3.ensures ∙ ap (λ l. word_of l 0) c.split-words.ensures) c.is_start.ensures c.if-is_start.true))
           c.answered-then-is_start.result c.run-then-is_start.result _ a.store.now c.answered-then-is_start.ensures;
     }
@@ -104,14 +84,14 @@ returns c =
     let a = c.args in
     let room = length a.bytes.now in
     let size = length a.store.now in
-    let quiet = speaks (goal.at.returns c).Else-words-eq0 in
+    let quiet = (let it : is_silent (c.args.line.now) ≡ false = not_silent a.kept (length a.bytes.now) (length a.store.now) a.line.now (sym c.is_comment.ensures ∙ c.if-is_comment.false) (λ z. c.if-words-eq0.false (sym (words_count a.line.now c.split-words.result) ∙ ap length c.split-words.ensures ∙ z)) in it) in
     record {
       within = omega (arith, c.ask_device.ensures.within);
       silent = (λ s. true-false (sym s ∙ quiet));
       asks = subst (λ (q : Request). Says q c.ask_device.result c.ask_device.new.bytes a.store.now c.ask_device.new.store)
           (ap (λ l. ask_device a.kept room size l) c.split-words.ensures ∙ device_line a.kept room size a.line.now quiet
-          (no-frame (goal.at.returns c).Else-is_frame)
-          (no-sum (goal.at.returns c).Else-is_sum)
+          ((read_as is_frame (c.word.ensures ∙ ap (λ l. word_of l 0) c.split-words.ensures) c.is_frame.ensures c.if-is_frame.false))
+          ((read_as is_sum (c.word-2.ensures ∙ ap (λ l. word_of l 0) c.split-words.ensures) c.is_sum.ensures c.if-is_sum.false))
           (read_as is_start (c.word-3.ensures ∙ ap (λ l. word_of l 0) c.split-words.ensures) c.is_start.ensures c.if-is_start.false))
           c.ask_device.ensures.asks;
     }

@@ -6,8 +6,7 @@ use Rattle.sender.proofs.payload_size.Goals as goal
 
 pub returns : goal.returns
 returns c =
-    let m = c.args.m in
-    (
-      c.piece_of.ensures ∙ ap (λ (c.room_of.result : ℕ). piece_of c.room_of.result (m.len - m.at)) c.room_of.ensures,
+    let m = c.args.m in (
+      c.piece_of.ensures ∙ ap (λ (room : ℕ). piece_of room (m.len - m.at)) c.room_of.ensures,
       omega (arith, c.piece_of.ensures, piece_left c.room_of.result (m.len - m.at), c.requires),
     )

@@ -23,13 +23,6 @@ use Rattle.arrival.proofs.Inside.{lent, inside}
 use borrow.Author.Rules.{rules}
 use Rattle.arrival.proofs.parts.judge_first.Goals as goal
 
--- the payload ends in the bytes
-tagged-ends : (t : goal.In-Tagged-2) → t.in-Tagged.start + t.in-Tagged.len ≤ length t.args.bytes.now
-tagged-ends t = inside _ _ _ (sym t.in-Tagged.is ∙ t.read_segment.ensures)
-
-untagged-ends : (t : goal.In-Untagged-2) → t.in-Untagged.start + t.in-Untagged.len ≤ length t.args.bytes.now
-untagged-ends t = inside _ _ _ (sym t.in-Untagged.is ∙ t.read_segment.ensures)
-
 -- what an untagged segment of this payload is judged to be
 abbrev untagged : List Window → ℕ → Stream → UntaggedHeader → List ℕ → Verdict
 untagged windows number s h payload =
@@ -56,19 +49,19 @@ module _ (p : Part) (windows : List Window) (number : ℕ) (s : Stream) (bytes s
   )
 
 pub overflow_add-end : goal.overflow_add-end
-overflow_add-end c = omega (arith, tagged-ends (goal.at.overflow_add-end c).In-Tagged-2)
+overflow_add-end c = omega (arith, (inside _ _ _ (sym c.in-Tagged.is ∙ c.read_segment.ensures)))
 
 pub slice_bounds-place_by-end : goal.slice_bounds-place_by-end
-slice_bounds-place_by-end c = omega (arith, tagged-ends (goal.at.slice_bounds-place_by-end c).In-Tagged-2)
+slice_bounds-place_by-end c = omega (arith, (inside _ _ _ (sym c.in-Tagged.is ∙ c.read_segment.ensures)))
 
 pub overflow_add-end-in-Untagged : goal.overflow_add-end-in-Untagged
-overflow_add-end-in-Untagged c = omega (arith, untagged-ends (goal.at.overflow_add-end-in-Untagged c).In-Untagged-2)
+overflow_add-end-in-Untagged c = omega (arith, (inside _ _ _ (sym c.in-Untagged.is ∙ c.read_segment.ensures)))
 
 pub slice_bounds-judge_untagged-end : goal.slice_bounds-judge_untagged-end
-slice_bounds-judge_untagged-end c = omega (arith, untagged-ends (goal.at.slice_bounds-judge_untagged-end c).In-Untagged-2)
+slice_bounds-judge_untagged-end c = omega (arith, (inside _ _ _ (sym c.in-Untagged.is ∙ c.read_segment.ensures)))
 
 pub slice_bounds-place_by-end-in-Untagged : goal.slice_bounds-place_by-end-in-Untagged
-slice_bounds-place_by-end-in-Untagged c = omega (arith, untagged-ends (goal.at.slice_bounds-place_by-end-in-Untagged c).In-Untagged-2)
+slice_bounds-place_by-end-in-Untagged c = omega (arith, (inside _ _ _ (sym c.in-Untagged.is ∙ c.read_segment.ensures)))
 
 pub returns-in-Wait : goal.returns-in-Wait
 returns-in-Wait c =

@@ -26,19 +26,19 @@ three w at x a b h e =
 pub copy-requires : goal.copy-requires
 copy-requires c =
     let k : length c.four_words-first.result ≡ 16 = ap length c.four_words-first.ensures.0 in
-    simp k (omega (arith, c.store_word.auto.dst, c.before.before.before.before.store-word-arg.given.0.1, c.stream_offset-at.ensures))
+    simp k (omega (arith, c.store_word.auto.dst, c.stream_offset-at.ensures))
 
 pub copy-requires-2 : goal.copy-requires-2
 copy-requires-2 c =
     let k : length c.four_words-last.result ≡ 16 = ap length c.four_words-last.ensures.0 in
-    simp k (omega (arith, c.copy.auto.dst, c.store_word.auto.dst, c.before.before.before.before.before.before.before.store-word-arg.given.0.1, c.stream_offset-at.ensures))
+    simp k (omega (arith, c.copy.auto.dst, c.store_word.auto.dst, c.stream_offset-at.ensures))
 
 pub returns : goal.returns
 returns c =
     let d = c.args.domain in
     let j = c.args.slot in
     let r = c.args.r in
-    let long : length r.entries ≡ 8 = simp length-map at c.well_formed.1.1.1.0.1.1.1.1.0.1.0.1 in
+    let long : length r.entries ≡ 8 = c.well_formed.1.1.1.0.1.1.1.1.0.1.0.1 in
     let back : requests_in (reads_words r) ≡ r.entries =
     listed_8 (λ i. request_in (reads_words r) (1 + i * 4)) (waiting_read r) c.four_words-first.ensures.1 c.four_words-first.ensures.2 c.four_words-first.ensures.3 c.four_words-first.ensures.4 c.four_words-last.ensures.1 c.four_words-last.ensures.2 c.four_words-last.ensures.3 c.four_words-last.ensures.4
     ∙ listed-all 8 r.entries no_read long
@@ -46,7 +46,7 @@ returns c =
     let after : c.copy-2.new.dst ≡ stored_reads c.args.words.now d j r =
     c.copy-2.ensures
     ∙ ap (λ (l : List ℕ). put l (c.stream_offset-at.result + 13 + 17) c.four_words-last.result) (c.copy.ensures ∙ ap (λ (l : List ℕ). put l (c.stream_offset-at.result + 13 + 1) c.four_words-first.result) c.store_word.ensures)
-    ∙ three c.args.words.now (c.stream_offset-at.result + 13) c.pair.result c.four_words-first.result c.four_words-last.result (omega (arith, c.stream_offset-at.ensures, whole)) (ap length c.four_words-first.ensures.0)
+    ∙ three c.args.words.now (c.stream_offset-at.result + 13) c.pair.result c.four_words-first.result c.four_words-last.result (omega (arith, c.stream_offset-at.ensures)) (ap length c.four_words-first.ensures.0)
     ∙ rw (c.stream_offset-at.ensures, c.pair.ensures.0, c.four_words-first.ensures.0, c.four_words-last.ensures.0) refl
     in
-    (after, ap (λ (l : List ℕ). loaded_reads l d j) after ∙ reads_stored c.args.words.now d j r (omega (arith, whole)) (reads_back r c.well_formed.1.1.1.0.1.1.0.1 c.well_formed.1.1.1.0.1.1.1.0.1 back), whole)
+    (after, ap (λ (l : List ℕ). loaded_reads l d j) after ∙ reads_stored c.args.words.now d j r (omega arith) (reads_back r c.well_formed.1.1.1.0.1.1.0.1 c.well_formed.1.1.1.0.1.1.1.0.1 back))

@@ -13,7 +13,7 @@ use Rattle.block.proofs.sends.encode.Goals as goal
 pub returns : goal.returns
 returns c =
     let s = c.args.s in
-    let long : length s.buffers.entries ≡ 8 = simp length-map at c.well_formed.0.1.1.1.1.1.0.1.1.1.0.1.0.1 in
+    let long : length s.buffers.entries ≡ 8 = c.well_formed.0.1.1.1.1.1.0.1.1.1.0.1.0.1 in
     let e : ℕ → Buffer = λ k. get_or s.buffers.entries k no_buffer in
     let back : sequence 8 (λ k. buffer_in (buffer_word (e k))) ≡ sequence 8 e =
     listed_8 (λ k. buffer_in (buffer_word (e k))) e c.buffer_word.ensures.1 c.buffer_word-2.ensures.1 c.buffer_word-3.ensures.1 c.buffer_word-4.ensures.1 c.buffer_word-5.ensures.1 c.buffer_word-6.ensures.1 c.buffer_word-7.ensures.1 c.buffer_word-8.ensures.1

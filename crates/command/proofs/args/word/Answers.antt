@@ -12,8 +12,8 @@ returns-then-words-i c = let a = c.args in sym (word_none a.line.now a.words a.i
 pub returns-then-i-ge-MAX_WORDS : goal.returns-then-i-ge-MAX_WORDS
 returns-then-i-ge-MAX_WORDS c =
     let a = c.args in
-    let s : length a.words.starts ≡ 11 = simp length-map at c.well_formed.1.0.1.1.0.1.0.1 in
-    let e : length a.words.ends ≡ 11 = simp length-map at c.well_formed.1.0.1.1.1.0.1.0.1 in
+    let s : length a.words.starts ≡ 11 = c.well_formed.1.0.1.1.0.1.0.1 in
+    let e : length a.words.ends ≡ 11 = c.well_formed.1.0.1.1.1.0.1.0.1 in
     sym (word_unkept a.line.now a.words a.i (omega arith) (omega arith) (omega arith))
 
 pub returns-then-end-start : goal.returns-then-end-start

@@ -10,36 +10,22 @@ use Rattle.command.proofs.Read.{read_as}
 use borrow.Author.Rules.{rules}
 use Rattle.command.proofs.frames.ask_command.Goals as goal
 
--- the line's first word
-abbrev name : goal.Start → List ℕ
-name c = word_of (words_at c.args.line.now c.args.words) 0
-
--- which names it is not, in the order in which they are compared
-not-fpdu : (c : goal.Else-same) → same (name «PLACE») fpdu_name ≡ false
-not-fpdu c = read_as (λ (n : List ℕ). same n fpdu_name) c.word-name.ensures c.same.ensures c.if-same.false
-
-not-unframe : (c : goal.Else-same-2) → same (name «PLACE») unframe_name ≡ false
-not-unframe c = read_as (λ (n : List ℕ). same n unframe_name) c.word-name.ensures c.same-2.ensures c.if-same-2.false
-
-not-startup : (c : goal.Else-same-3) → same (name «PLACE») startup_name ≡ false
-not-startup c = read_as (λ (n : List ℕ). same n startup_name) c.word-name.ensures c.same-3.ensures c.if-same-3.false
-
 pub returns-then-same : goal.returns-then-same
 unfolding command_asked
 returns-then-same c = rw (read_as (λ (n : List ℕ). same n fpdu_name) c.word-name.ensures c.same.ensures c.if-same.true) c.ask_fpdu.ensures
 
 pub returns-then-same-2 : goal.returns-then-same-2
 unfolding command_asked
-returns-then-same-2 c = rw (not-fpdu (goal.at.returns-then-same-2 c).Else-same, read_as (λ (n : List ℕ). same n unframe_name) c.word-name.ensures c.same-2.ensures c.if-same-2.true) c.ask_unframe.ensures
+returns-then-same-2 c = rw ((read_as (λ (n : List ℕ). same n fpdu_name) c.word-name.ensures c.same.ensures c.if-same.false), read_as (λ (n : List ℕ). same n unframe_name) c.word-name.ensures c.same-2.ensures c.if-same-2.true) c.ask_unframe.ensures
 
 pub returns-then-same-3 : goal.returns-then-same-3
 unfolding command_asked
-returns-then-same-3 c = rw (not-fpdu (goal.at.returns-then-same-3 c).Else-same, not-unframe (goal.at.returns-then-same-3 c).Else-same-2, read_as (λ (n : List ℕ). same n startup_name) c.word-name.ensures c.same-3.ensures c.if-same-3.true) c.ask_startup.ensures
+returns-then-same-3 c = rw ((read_as (λ (n : List ℕ). same n fpdu_name) c.word-name.ensures c.same.ensures c.if-same.false), (read_as (λ (n : List ℕ). same n unframe_name) c.word-name.ensures c.same-2.ensures c.if-same-2.false), read_as (λ (n : List ℕ). same n startup_name) c.word-name.ensures c.same-3.ensures c.if-same-3.true) c.ask_startup.ensures
 
 pub returns-then-same-4 : goal.returns-then-same-4
 unfolding command_asked
-returns-then-same-4 c = rw (not-fpdu (goal.at.returns-then-same-4 c).Else-same, not-unframe (goal.at.returns-then-same-4 c).Else-same-2, not-startup (goal.at.returns-then-same-4 c).Else-same-3, read_as (λ (n : List ℕ). same n unstartup_name) c.word-name.ensures c.same-4.ensures c.if-same-4.true) c.ask_unstartup.ensures
+returns-then-same-4 c = rw ((read_as (λ (n : List ℕ). same n fpdu_name) c.word-name.ensures c.same.ensures c.if-same.false), (read_as (λ (n : List ℕ). same n unframe_name) c.word-name.ensures c.same-2.ensures c.if-same-2.false), (read_as (λ (n : List ℕ). same n startup_name) c.word-name.ensures c.same-3.ensures c.if-same-3.false), read_as (λ (n : List ℕ). same n unstartup_name) c.word-name.ensures c.same-4.ensures c.if-same-4.true) c.ask_unstartup.ensures
 
 pub returns : goal.returns
 unfolding command_asked
-returns c = rw (not-fpdu (goal.at.returns c).Else-same, not-unframe (goal.at.returns c).Else-same-2, not-startup (goal.at.returns c).Else-same-3, read_as (λ (n : List ℕ). same n unstartup_name) c.word-name.ensures c.same-4.ensures c.if-same-4.false)
+returns c = rw ((read_as (λ (n : List ℕ). same n fpdu_name) c.word-name.ensures c.same.ensures c.if-same.false), (read_as (λ (n : List ℕ). same n unframe_name) c.word-name.ensures c.same-2.ensures c.if-same-2.false), (read_as (λ (n : List ℕ). same n startup_name) c.word-name.ensures c.same-3.ensures c.if-same-3.false), read_as (λ (n : List ℕ). same n unstartup_name) c.word-name.ensures c.same-4.ensures c.if-same-4.false)

@@ -13,43 +13,26 @@ use Rattle.command.proofs.Read.{counted, other_count, read_as}
 use borrow.Author.Rules.{rules}
 use Rattle.command.proofs.frames.ask_startup.Goals as goal
 
--- the line's words
-abbrev ws : goal.Start → List (List ℕ)
-ws c = words_at c.args.line.now c.args.words
-
--- what is known of them once they are counted, and `req` or `rep`, C and R are read
-six : (c : goal.Else-words-ne6) → eqb (length (ws «PLACE»)) 6 ≡ true
-six c = counted _ c.args.words 6 c.if-words-ne6.false
-
-reply-known : (c : goal.In-Value) → reply_of (word_of (ws «PLACE») 1) ≡ Flag.Value c.in-Value.reply
-reply-known c = read_as reply_of c.word.ensures c.flag_of.ensures c.in-Value.is
-
-crc-known : (c : goal.In-Value-flag_of) → bit_of (word_of (ws «PLACE») 2) ≡ Flag.Value c.in-Value-flag_of.crc
-crc-known c = read_as bit_of c.word-2.ensures c.flag_of-2.ensures c.in-Value-flag_of.is
-
-declined-known : (c : goal.In-Value-flag_of-2) → bit_of (word_of (ws «PLACE») 3) ≡ Flag.Value c.in-Value-flag_of-2.declined
-declined-known c = read_as bit_of c.word-3.ensures c.flag_of-3.ensures c.in-Value-flag_of-2.is
-
 pub returns-then-words-ne6 : goal.returns-then-words-ne6
 unfolding startup_asked
 returns-then-words-ne6 c = let a = c.args in rw (other_count a.line.now a.words 6 c.if-words-ne6.true)
 
 pub returns-in_default : goal.returns-in_default
 unfolding startup_asked
-returns-in_default c = rw (six (goal.at.returns-in_default c).Else-words-ne6, read_as reply_of c.word.ensures c.flag_of.ensures c.in_default.is)
+returns-in_default c = rw ((counted _ c.args.words 6 c.if-words-ne6.false), read_as reply_of c.word.ensures c.flag_of.ensures c.in_default.is)
 
 pub returns-in_default-flag_of : goal.returns-in_default-flag_of
 unfolding startup_asked
-returns-in_default-flag_of c = rw (six (goal.at.returns-in_default-flag_of c).Else-words-ne6, reply-known (goal.at.returns-in_default-flag_of c).In-Value, read_as bit_of c.word-2.ensures c.flag_of-2.ensures c.in_default-flag_of.is)
+returns-in_default-flag_of c = rw ((counted _ c.args.words 6 c.if-words-ne6.false), (read_as reply_of c.word.ensures c.flag_of.ensures c.in-Value.is), read_as bit_of c.word-2.ensures c.flag_of-2.ensures c.in_default-flag_of.is)
 
 pub returns-in_default-flag_of-2 : goal.returns-in_default-flag_of-2
 unfolding startup_asked
-returns-in_default-flag_of-2 c = rw (six (goal.at.returns-in_default-flag_of-2 c).Else-words-ne6, reply-known (goal.at.returns-in_default-flag_of-2 c).In-Value, crc-known (goal.at.returns-in_default-flag_of-2 c).In-Value-flag_of, read_as bit_of c.word-3.ensures c.flag_of-3.ensures c.in_default-flag_of-2.is)
+returns-in_default-flag_of-2 c = rw ((counted _ c.args.words 6 c.if-words-ne6.false), (read_as reply_of c.word.ensures c.flag_of.ensures c.in-Value.is), (read_as bit_of c.word-2.ensures c.flag_of-2.ensures c.in-Value-flag_of.is), read_as bit_of c.word-3.ensures c.flag_of-3.ensures c.in_default-flag_of-2.is)
 
 pub returns-in_default-read_number : goal.returns-in_default-read_number
 unfolding startup_asked
-returns-in_default-read_number c = rw (six (goal.at.returns-in_default-read_number c).Else-words-ne6, reply-known (goal.at.returns-in_default-read_number c).In-Value, crc-known (goal.at.returns-in_default-read_number c).In-Value-flag_of, declined-known (goal.at.returns-in_default-read_number c).In-Value-flag_of-2, read_as number_of c.word-4.ensures c.read_number.ensures c.in_default-read_number.is)
+returns-in_default-read_number c = rw ((counted _ c.args.words 6 c.if-words-ne6.false), (read_as reply_of c.word.ensures c.flag_of.ensures c.in-Value.is), (read_as bit_of c.word-2.ensures c.flag_of-2.ensures c.in-Value-flag_of.is), (read_as bit_of c.word-3.ensures c.flag_of-3.ensures c.in-Value-flag_of-2.is), read_as number_of c.word-4.ensures c.read_number.ensures c.in_default-read_number.is)
 
 pub returns : goal.returns
 unfolding startup_asked
-returns c = rw (six (goal.at.returns c).Else-words-ne6, reply-known (goal.at.returns c).In-Value, crc-known (goal.at.returns c).In-Value-flag_of, declined-known (goal.at.returns c).In-Value-flag_of-2, read_as number_of c.word-4.ensures c.read_number.ensures c.in-Value-read_number.is)
+returns c = rw ((counted _ c.args.words 6 c.if-words-ne6.false), (read_as reply_of c.word.ensures c.flag_of.ensures c.in-Value.is), (read_as bit_of c.word-2.ensures c.flag_of-2.ensures c.in-Value-flag_of.is), (read_as bit_of c.word-3.ensures c.flag_of-3.ensures c.in-Value-flag_of-2.is), read_as number_of c.word-4.ensures c.read_number.ensures c.in-Value-read_number.is)

@@ -10,25 +10,14 @@ use Rattle.command.proofs.Asked.{size-within}
 use borrow.Author.Rules.{rules}
 use Rattle.command.proofs.frames.run.Goals as goal
 
--- as many bytes as are told lie in the buffer
-size_fits : (c : goal.After-ask_frame-asked) → c.ask_frame-asked.result.size ≤ length c.ask_frame-asked.new.bytes
-size_fits c =
-    let a = c.args in
-    omega (
-      arith,
-      size-within (words_at a.line.now a.words) (length a.bytes.now),
-      ap (λ (x : FrameAsked). x.size) c.ask_frame-asked.ensures.asked,
-      c.ask_frame-asked.auto.bytes,
-    )
-
 pub slice_bounds-answer_frame-end : goal.slice_bounds-answer_frame-end
-slice_bounds-answer_frame-end c = size_fits (goal.at.slice_bounds-answer_frame-end c).After-ask_frame-asked
+slice_bounds-answer_frame-end c = (let it : c.ask_frame-asked.result.size ≤ length c.ask_frame-asked.new.bytes = let a = c.args in omega (arith, size-within (words_at a.line.now a.words) (length a.bytes.now), ap (λ (x : FrameAsked). x.size) c.ask_frame-asked.ensures.asked, c.ask_frame-asked.auto.bytes) in it)
 
 pub slice_bounds-answer_frame-end-2 : goal.slice_bounds-answer_frame-end-2
-slice_bounds-answer_frame-end-2 c = sym (length-take-le _ _ (size_fits (goal.at.slice_bounds-answer_frame-end-2 c).After-ask_frame-asked))
+slice_bounds-answer_frame-end-2 c = sym (length-take-le _ _ ((let it : c.ask_frame-asked.result.size ≤ length c.ask_frame-asked.new.bytes = let a = c.args in omega (arith, size-within (words_at a.line.now a.words) (length a.bytes.now), ap (λ (x : FrameAsked). x.size) c.ask_frame-asked.ensures.asked, c.ask_frame-asked.auto.bytes) in it)))
 
 pub slice_bounds-tell_frame-end : goal.slice_bounds-tell_frame-end
-slice_bounds-tell_frame-end c = size_fits (goal.at.slice_bounds-tell_frame-end c).After-ask_frame-asked
+slice_bounds-tell_frame-end c = (let it : c.ask_frame-asked.result.size ≤ length c.ask_frame-asked.new.bytes = let a = c.args in omega (arith, size-within (words_at a.line.now a.words) (length a.bytes.now), ap (λ (x : FrameAsked). x.size) c.ask_frame-asked.ensures.asked, c.ask_frame-asked.auto.bytes) in it)
 
 pub slice_bounds-tell_frame-end-2 : goal.slice_bounds-tell_frame-end-2
-slice_bounds-tell_frame-end-2 c = sym (length-take-le _ _ (size_fits (goal.at.slice_bounds-tell_frame-end-2 c).After-ask_frame-asked))
+slice_bounds-tell_frame-end-2 c = sym (length-take-le _ _ ((let it : c.ask_frame-asked.result.size ≤ length c.ask_frame-asked.new.bytes = let a = c.args in omega (arith, size-within (words_at a.line.now a.words) (length a.bytes.now), ap (λ (x : FrameAsked). x.size) c.ask_frame-asked.ensures.asked, c.ask_frame-asked.auto.bytes) in it)))

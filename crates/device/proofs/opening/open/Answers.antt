@@ -10,39 +10,32 @@ use mathlib.Core.Path.{sym, ◌∙◌}
 use borrow.Author.Rules.{rules}
 use Rattle.device.proofs.opening.open.Goals as goal
 
--- a length in its range and parts in order fit their fields
-bounds : (c : goal.Then-in_order) → (c.args.len ≤ 16777216) × (Ordered c.args.len c.args.s0 c.args.e0 c.args.s1 c.args.e1 c.args.s2 c.args.e2 c.args.s3 c.args.e3)
-bounds c = (
-  leb-true c.args.len 16777216 (both_true (leb 1 c.args.len) (leb c.args.len 16777216) (sym c.length_in_range.ensures ∙ c.if-length_in_range.true)).1,
-  ordered _ _ _ _ _ _ _ _ _ (sym c.in_order.ensures ∙ c.if-in_order.true),
-)
-
 pub overflow_cast-len : goal.overflow_cast-len
-overflow_cast-len c = omega (arith, bounds (goal.at.overflow_cast-len c).Then-in_order)
+overflow_cast-len c = omega (arith, (let it : (c.args.len ≤ 16777216) × (Ordered c.args.len c.args.s0 c.args.e0 c.args.s1 c.args.e1 c.args.s2 c.args.e2 c.args.s3 c.args.e3) = (leb-true c.args.len 16777216 (both_true (leb 1 c.args.len) (leb c.args.len 16777216) (sym c.length_in_range.ensures ∙ c.if-length_in_range.true)).1, ordered _ _ _ _ _ _ _ _ _ (sym c.in_order.ensures ∙ c.if-in_order.true)) in it))
 
 pub overflow_cast-s0 : goal.overflow_cast-s0
-overflow_cast-s0 c = omega (arith, bounds (goal.at.overflow_cast-s0 c).Then-in_order)
+overflow_cast-s0 c = omega (arith, (let it : (c.args.len ≤ 16777216) × (Ordered c.args.len c.args.s0 c.args.e0 c.args.s1 c.args.e1 c.args.s2 c.args.e2 c.args.s3 c.args.e3) = (leb-true c.args.len 16777216 (both_true (leb 1 c.args.len) (leb c.args.len 16777216) (sym c.length_in_range.ensures ∙ c.if-length_in_range.true)).1, ordered _ _ _ _ _ _ _ _ _ (sym c.in_order.ensures ∙ c.if-in_order.true)) in it))
 
 pub overflow_cast-e0 : goal.overflow_cast-e0
-overflow_cast-e0 c = omega (arith, bounds (goal.at.overflow_cast-e0 c).Then-in_order)
+overflow_cast-e0 c = omega (arith, (let it : (c.args.len ≤ 16777216) × (Ordered c.args.len c.args.s0 c.args.e0 c.args.s1 c.args.e1 c.args.s2 c.args.e2 c.args.s3 c.args.e3) = (leb-true c.args.len 16777216 (both_true (leb 1 c.args.len) (leb c.args.len 16777216) (sym c.length_in_range.ensures ∙ c.if-length_in_range.true)).1, ordered _ _ _ _ _ _ _ _ _ (sym c.in_order.ensures ∙ c.if-in_order.true)) in it))
 
 pub overflow_cast-s1 : goal.overflow_cast-s1
-overflow_cast-s1 c = omega (arith, bounds (goal.at.overflow_cast-s1 c).Then-in_order)
+overflow_cast-s1 c = omega (arith, (let it : (c.args.len ≤ 16777216) × (Ordered c.args.len c.args.s0 c.args.e0 c.args.s1 c.args.e1 c.args.s2 c.args.e2 c.args.s3 c.args.e3) = (leb-true c.args.len 16777216 (both_true (leb 1 c.args.len) (leb c.args.len 16777216) (sym c.length_in_range.ensures ∙ c.if-length_in_range.true)).1, ordered _ _ _ _ _ _ _ _ _ (sym c.in_order.ensures ∙ c.if-in_order.true)) in it))
 
 pub overflow_cast-e1 : goal.overflow_cast-e1
-overflow_cast-e1 c = omega (arith, bounds (goal.at.overflow_cast-e1 c).Then-in_order)
+overflow_cast-e1 c = omega (arith, (let it : (c.args.len ≤ 16777216) × (Ordered c.args.len c.args.s0 c.args.e0 c.args.s1 c.args.e1 c.args.s2 c.args.e2 c.args.s3 c.args.e3) = (leb-true c.args.len 16777216 (both_true (leb 1 c.args.len) (leb c.args.len 16777216) (sym c.length_in_range.ensures ∙ c.if-length_in_range.true)).1, ordered _ _ _ _ _ _ _ _ _ (sym c.in_order.ensures ∙ c.if-in_order.true)) in it))
 
 pub overflow_cast-s2 : goal.overflow_cast-s2
-overflow_cast-s2 c = omega (arith, bounds (goal.at.overflow_cast-s2 c).Then-in_order)
+overflow_cast-s2 c = omega (arith, (let it : (c.args.len ≤ 16777216) × (Ordered c.args.len c.args.s0 c.args.e0 c.args.s1 c.args.e1 c.args.s2 c.args.e2 c.args.s3 c.args.e3) = (leb-true c.args.len 16777216 (both_true (leb 1 c.args.len) (leb c.args.len 16777216) (sym c.length_in_range.ensures ∙ c.if-length_in_range.true)).1, ordered _ _ _ _ _ _ _ _ _ (sym c.in_order.ensures ∙ c.if-in_order.true)) in it))
 
 pub overflow_cast-e2 : goal.overflow_cast-e2
-overflow_cast-e2 c = omega (arith, bounds (goal.at.overflow_cast-e2 c).Then-in_order)
+overflow_cast-e2 c = omega (arith, (let it : (c.args.len ≤ 16777216) × (Ordered c.args.len c.args.s0 c.args.e0 c.args.s1 c.args.e1 c.args.s2 c.args.e2 c.args.s3 c.args.e3) = (leb-true c.args.len 16777216 (both_true (leb 1 c.args.len) (leb c.args.len 16777216) (sym c.length_in_range.ensures ∙ c.if-length_in_range.true)).1, ordered _ _ _ _ _ _ _ _ _ (sym c.in_order.ensures ∙ c.if-in_order.true)) in it))
 
 pub overflow_cast-s3 : goal.overflow_cast-s3
-overflow_cast-s3 c = omega (arith, bounds (goal.at.overflow_cast-s3 c).Then-in_order)
+overflow_cast-s3 c = omega (arith, (let it : (c.args.len ≤ 16777216) × (Ordered c.args.len c.args.s0 c.args.e0 c.args.s1 c.args.e1 c.args.s2 c.args.e2 c.args.s3 c.args.e3) = (leb-true c.args.len 16777216 (both_true (leb 1 c.args.len) (leb c.args.len 16777216) (sym c.length_in_range.ensures ∙ c.if-length_in_range.true)).1, ordered _ _ _ _ _ _ _ _ _ (sym c.in_order.ensures ∙ c.if-in_order.true)) in it))
 
 pub overflow_cast-e3 : goal.overflow_cast-e3
-overflow_cast-e3 c = omega (arith, bounds (goal.at.overflow_cast-e3 c).Then-in_order)
+overflow_cast-e3 c = omega (arith, (let it : (c.args.len ≤ 16777216) × (Ordered c.args.len c.args.s0 c.args.e0 c.args.s1 c.args.e1 c.args.s2 c.args.e2 c.args.s3 c.args.e3) = (leb-true c.args.len 16777216 (both_true (leb 1 c.args.len) (leb c.args.len 16777216) (sym c.length_in_range.ensures ∙ c.if-length_in_range.true)).1, ordered _ _ _ _ _ _ _ _ _ (sym c.in_order.ensures ∙ c.if-in_order.true)) in it))
 
 pub returns-then-in_order : goal.returns-then-in_order
 unfolding opened_rnic

@@ -39,12 +39,6 @@ judged_by w d j h payload =
 abbrev tagged_by : List ℕ → ℕ → TaggedHeader → ℕ → Verdict
 tagged_by w d h len = tagged_verdict (window_at (domain_at (rnic_at w) d).windows (slot_named h.stag)) d h len
 
-tagged-as : (c : goal.After-judge_tagged_segment-verdict) → c.judge_tagged_segment-verdict.result ≡ tagged_by c.args.words.now c.args.domain c.in-Tagged.header c.in-Tagged.len
-tagged-as c =
-    let a = c.args in
-    let window = c.load_window-w.ensures ∙ ap (loaded_window a.words.now a.domain) c.slot_named.ensures ∙ sym (window_at_lem a.words.now a.domain c.requires.0 (slot_named c.in-Tagged.header.stag) (search rules)) in
-    c.judge_tagged_segment-verdict.ensures ∙ ap (λ (x : Window). tagged_verdict x a.domain c.in-Tagged.header c.in-Tagged.len) window
-
 pub overflow_add-end : goal.overflow_add-end
 overflow_add-end c = omega (arith, inside _ _ _ (sym c.in-Tagged.is ∙ c.read_segment.ensures))
 
@@ -52,7 +46,7 @@ pub slice_bounds-payload-end : goal.slice_bounds-payload-end
 slice_bounds-payload-end c = omega (arith, inside _ _ _ (sym c.in-Tagged.is ∙ c.read_segment.ensures))
 
 pub apply_tagged-done-requires : goal.apply_tagged-done-requires
-apply_tagged-done-requires c = (c.requires.0, c.requires.1, subst OfTagged (sym (tagged-as (goal.at.apply_tagged-done-requires c).After-judge_tagged_segment-verdict)) (of_tagged _ _ c.in-Tagged.header _))
+apply_tagged-done-requires c = (c.requires.0, c.requires.1, subst OfTagged (sym ((let it : c.judge_tagged_segment-verdict.result ≡ tagged_by c.args.words.now c.args.domain c.in-Tagged.header c.in-Tagged.len = let a = c.args in let window = c.load_window-w.ensures ∙ ap (loaded_window a.words.now a.domain) c.slot_named.ensures ∙ sym (window_at_lem a.words.now a.domain c.requires.0 (slot_named c.in-Tagged.header.stag) (search rules)) in c.judge_tagged_segment-verdict.ensures ∙ ap (λ (x : Window). tagged_verdict x a.domain c.in-Tagged.header c.in-Tagged.len) window in it))) (of_tagged _ _ c.in-Tagged.header _))
 
 pub overflow_add-end-in-Untagged : goal.overflow_add-end-in-Untagged
 overflow_add-end-in-Untagged c = omega (arith, inside _ _ _ (sym c.in-Untagged.is ∙ c.read_segment.ensures))
@@ -79,7 +73,7 @@ pub returns-in-Tagged : goal.returns-in-Tagged
 returns-in-Tagged c =
     let a = c.args in
     let w = a.words.now in
-    let e = tagged-as (goal.at.returns-in-Tagged c).After-judge_tagged_segment-verdict in
+    let e = (let it : c.judge_tagged_segment-verdict.result ≡ tagged_by c.args.words.now c.args.domain c.in-Tagged.header c.in-Tagged.len = let a = c.args in let window = c.load_window-w.ensures ∙ ap (loaded_window a.words.now a.domain) c.slot_named.ensures ∙ sym (window_at_lem a.words.now a.domain c.requires.0 (slot_named c.in-Tagged.header.stag) (search rules)) in c.judge_tagged_segment-verdict.ensures ∙ ap (λ (x : Window). tagged_verdict x a.domain c.in-Tagged.header c.in-Tagged.len) window in it) in
     let l = lent a.bytes.now c.in-Tagged.start c.in-Tagged.len in
     let done = told w a.domain a.slot c.requires.0 c.requires.1 c.in-Tagged.total a.part.start _ a.store.now c.apply_tagged-done.new.words (sym e) c.apply_tagged-done.ensures in
     first_told a.words.now a.domain a.slot a.part a.bytes.now a.store.now c.count_taken.new.words

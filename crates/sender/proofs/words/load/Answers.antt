@@ -5,4 +5,4 @@ use Rattle.sender.proofs.words.load.Goals as goal
 
 pub returns : goal.returns
 unfolding message_at
-returns c = λ i. record { tagged = flag_in (get_or c.args.words.now 0 0); opcode = get_or c.args.words.now 1 0 % 256; c.lower.ensures = c.lower.ensures i; to = get_or c.args.words.now 3 0; c.lower-2.ensures = c.lower-2.ensures i; c.lower-3.ensures = c.lower-3.ensures i; c.lower-4.ensures = c.lower-4.ensures i; c.lower-5.ensures = c.lower-5.ensures i; done = flag_in (get_or c.args.words.now 8 0) }
+returns c = λ i. record { tagged = flag_in (get_or c.args.words.now 0 0); opcode = get_or c.args.words.now 1 0 % 256; stag = c.lower.ensures i; to = get_or c.args.words.now 3 0; msn = c.lower-2.ensures i; limit = c.lower-3.ensures i; len = c.lower-4.ensures i; at = c.lower-5.ensures i; done = flag_in (get_or c.args.words.now 8 0) }

@@ -15,29 +15,18 @@ use Rattle.starting.proofs.Asked.{said_as}
 use borrow.Author.Rules.{rules}
 use Rattle.starting.proofs.agree.answer_agree.Goals as goal
 
--- the line's words
-abbrev ws : goal.Start → List (List ℕ)
-ws c = words_at c.args.line.now c.args.words
-
--- what is known of them once they are counted, and the responder's terms are read
-eight : (c : goal.Else-words-ne8) → eqb (length (ws «PLACE»)) 8 ≡ true
-eight c = counted _ c.args.words 8 c.if-words-ne8.false
-
-own-said : (c : goal.After-numbers_said) {t : Said} → c.numbers_said.result ≡ t → terms_for false (number_of (word_of (ws «PLACE») 1)) (number_of (word_of (ws «PLACE») 2)) (number_of (word_of (ws «PLACE») 3)) ≡ t
-own-said c e = said_as false c.word.ensures c.word-2.ensures c.word-3.ensures c.numbers_said.ensures e
-
 pub returns-then-words-ne8 : goal.returns-then-words-ne8
 unfolding agree_answer
 returns-then-words-ne8 c = let a = c.args in rw (other_count a.line.now a.words 8 c.if-words-ne8.true)
 
 pub returns-in_default : goal.returns-in_default
 unfolding agree_answer
-returns-in_default c = rw (eight (goal.at.returns-in_default c).Else-words-ne8, own-said (goal.at.returns-in_default c).After-numbers_said c.in_default.is)
+returns-in_default c = rw ((counted _ c.args.words 8 c.if-words-ne8.false), said_as false c.word.ensures c.word-2.ensures c.word-3.ensures c.numbers_said.ensures c.in_default.is)
 
 pub returns-in_default-terms_said : goal.returns-in_default-terms_said
 unfolding agree_answer
-returns-in_default-terms_said c = rw (eight (goal.at.returns-in_default-terms_said c).Else-words-ne8, own-said (goal.at.returns-in_default-terms_said c).After-numbers_said c.in-Terms.is, sym c.terms_said.ensures ∙ c.in_default-terms_said.is)
+returns-in_default-terms_said c = rw ((counted _ c.args.words 8 c.if-words-ne8.false), said_as false c.word.ensures c.word-2.ensures c.word-3.ensures c.numbers_said.ensures c.in-Terms.is, sym c.terms_said.ensures ∙ c.in_default-terms_said.is)
 
 pub returns : goal.returns
 unfolding agree_answer
-returns c = rw (eight (goal.at.returns c).Else-words-ne8, own-said (goal.at.returns c).After-numbers_said c.in-Terms.is, sym c.terms_said.ensures ∙ c.in-Terms-terms_said.is) (ap Answer c.answer.ensures)
+returns c = rw ((counted _ c.args.words 8 c.if-words-ne8.false), said_as false c.word.ensures c.word-2.ensures c.word-3.ensures c.numbers_said.ensures c.in-Terms.is, sym c.terms_said.ensures ∙ c.in-Terms-terms_said.is) (ap Answer c.answer.ensures)

@@ -10,25 +10,14 @@ use Rattle.starting.proofs.Asked.{size-within}
 use borrow.Author.Rules.{rules}
 use Rattle.starting.proofs.frame.run.Goals as goal
 
--- as many bytes as are told lie in the buffer
-size_fits : (c : goal.After-ask_start-asked) → c.ask_start-asked.result.size ≤ length c.ask_start-asked.new.bytes
-size_fits c =
-    let a = c.args in
-    omega (
-      arith,
-      size-within (words_at a.line.now a.words) (length a.bytes.now),
-      ap (λ (x : StartAsked). x.size) c.ask_start-asked.ensures.asked,
-      c.ask_start-asked.auto.bytes,
-    )
-
 pub slice_bounds-answer_start-end : goal.slice_bounds-answer_start-end
-slice_bounds-answer_start-end c = size_fits (goal.at.slice_bounds-answer_start-end c).After-ask_start-asked
+slice_bounds-answer_start-end c = (let it : c.ask_start-asked.result.size ≤ length c.ask_start-asked.new.bytes = let a = c.args in omega (arith, size-within (words_at a.line.now a.words) (length a.bytes.now), ap (λ (x : StartAsked). x.size) c.ask_start-asked.ensures.asked, c.ask_start-asked.auto.bytes) in it)
 
 pub slice_bounds-answer_start-end-2 : goal.slice_bounds-answer_start-end-2
-slice_bounds-answer_start-end-2 c = sym (length-take-le _ _ (size_fits (goal.at.slice_bounds-answer_start-end-2 c).After-ask_start-asked))
+slice_bounds-answer_start-end-2 c = sym (length-take-le _ _ ((let it : c.ask_start-asked.result.size ≤ length c.ask_start-asked.new.bytes = let a = c.args in omega (arith, size-within (words_at a.line.now a.words) (length a.bytes.now), ap (λ (x : StartAsked). x.size) c.ask_start-asked.ensures.asked, c.ask_start-asked.auto.bytes) in it)))
 
 pub slice_bounds-tell_start-end : goal.slice_bounds-tell_start-end
-slice_bounds-tell_start-end c = size_fits (goal.at.slice_bounds-tell_start-end c).After-ask_start-asked
+slice_bounds-tell_start-end c = (let it : c.ask_start-asked.result.size ≤ length c.ask_start-asked.new.bytes = let a = c.args in omega (arith, size-within (words_at a.line.now a.words) (length a.bytes.now), ap (λ (x : StartAsked). x.size) c.ask_start-asked.ensures.asked, c.ask_start-asked.auto.bytes) in it)
 
 pub slice_bounds-tell_start-end-2 : goal.slice_bounds-tell_start-end-2
-slice_bounds-tell_start-end-2 c = sym (length-take-le _ _ (size_fits (goal.at.slice_bounds-tell_start-end-2 c).After-ask_start-asked))
+slice_bounds-tell_start-end-2 c = sym (length-take-le _ _ ((let it : c.ask_start-asked.result.size ≤ length c.ask_start-asked.new.bytes = let a = c.args in omega (arith, size-within (words_at a.line.now a.words) (length a.bytes.now), ap (λ (x : StartAsked). x.size) c.ask_start-asked.ensures.asked, c.ask_start-asked.auto.bytes) in it)))

@@ -19,8 +19,5 @@ returns-then-terms c = let f = fit c.args.terms c.requires in (simp (c.kinds_of.
 pub overflow_mul-result-2 : goal.overflow_mul-result-2
 overflow_mul-result-2 c = let f = fit c.args.terms c.requires in omega (arith, f.ird, f.said)
 
-pub overflow_add-result-2 : goal.overflow_add-result-2
-overflow_add-result-2 c = let f = fit c.args.terms c.requires in omega (arith, f.ird, f.said)
-
 pub returns : goal.returns
 returns c = let f = fit c.args.terms c.requires in (simp (c.kinds_of.ensures, c.if-terms.false), omega (arith, f.ird, f.said))

@@ -17,6 +17,6 @@ pub returns : goal.returns
 unfolding popped_reads
 returns c =
     let r = c.args.self in
-    let long : length r.entries ≡ 8 = simp length-map at c.well_formed.0.1.1.1.1.0.1.0.1 in
+    let long : length r.entries ≡ 8 = c.well_formed.0.1.1.1.1.0.1.0.1 in
     simp (ne_eqb _ _ c.if-count-eq0.false, c.no_read-none.ensures)
     (λ i. record { msn = r.msn; count = r.count - 1; entries = shifted no_read no_read r.entries long i })

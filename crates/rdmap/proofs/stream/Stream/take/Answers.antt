@@ -12,23 +12,19 @@ use Rattle.rdmap.proofs.read.Reads.popped.Reads as popped-reads
 use Rattle.rdmap.proofs.stream.Stream.with_reads.Reads as with-reads-reads
 use Rattle.rdmap.proofs.stream.Stream.take.Goals as goal
 
--- past the match the stream is ready
-is-ready : (t : goal.In-Ready) → readiness t.args.self.phase ≡ Ready
-is-ready t = sym t.ready.ensures ∙ t.in-Ready.is
-
 pub returns-in-NotReady : goal.returns-in-NotReady
 unfolding taken_from
 returns-in-NotReady c = ap (taken_when c.args.self) (sym c.in-NotReady.is ∙ c.ready.ensures)
 
 pub returns-then-reads-eq0 : goal.returns-then-reads-eq0
 unfolding taken_from
-returns-then-reads-eq0 c = simp (is-ready (goal.at.returns-then-reads-eq0 c).In-Ready, eq-eqb _ _ c.if-reads-eq0.true)
+returns-then-reads-eq0 c = simp ((sym c.ready.ensures ∙ c.in-Ready.is), eq-eqb _ _ c.if-reads-eq0.true)
 
 pub returns : goal.returns
 unfolding taken_from
 returns c =
     simp (
-      is-ready (goal.at.returns c).In-Ready,
+      (sym c.ready.ensures ∙ c.in-Ready.is),
       ne_eqb _ _ c.if-reads-eq0.false,
       c.first-first.ensures,
       c.popped.ensures,
