@@ -6,7 +6,7 @@ use Rattle.domain.proofs.open_stream.Goals as goal
 
 pub returns-then-slot-le3 : goal.returns-then-slot-le3
 unfolding domain_opened
-returns-then-slot-le3 c = simp (le-leb _ _ c.if-slot-le3.true, c.with_stream.ensures, c.open.ensures)
+returns-then-slot-le3 c = simp (le-leb _ _ c.if-slot-le3.true, c.with_stream.ensures, c.open-done.ensures)
 
 pub returns : goal.returns
 unfolding domain_opened

@@ -7,7 +7,7 @@ pub returns-then-m : goal.returns-then-m
 returns-then-m c =
     let a = c.args in
     c.write_tagged.ensures.1
-    ∙ tagged_header a.m a.out.now a.last c.control_byte-control.result c.wrapping_add_u64-offset.result c.if-m.true c.requires.0 c.control_byte-control.ensures (c.wrapping_add_u64-offset.ensures.value, ()) c.requires.1
+    ∙ tagged_header a.m a.out.now a.last c.control_byte-control.result c.wrapping_add_u64-offset.result c.if-m.true c.requires.0 c.control_byte-control.ensures c.wrapping_add_u64-offset.ensures.value c.requires.1
 
 pub returns-else-m : goal.returns-else-m
 returns-else-m c =

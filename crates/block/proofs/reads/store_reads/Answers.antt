@@ -49,4 +49,4 @@ returns c =
     ∙ three c.args.words.now (c.stream_offset-at.result + 13) c.pair.result c.four_words-first.result c.four_words-last.result (omega (arith, c.stream_offset-at.ensures)) (ap length c.four_words-first.ensures.0)
     ∙ rw (c.stream_offset-at.ensures, c.pair.ensures.0, c.four_words-first.ensures.0, c.four_words-last.ensures.0) refl
     in
-    (after, ap (λ (l : List ℕ). loaded_reads l d j) after ∙ reads_stored c.args.words.now d j r (omega arith) (reads_back r c.well_formed.1.1.1.0.1.1.0.1 c.well_formed.1.1.1.0.1.1.1.0.1 back))
+    (after, ap (λ (l : List ℕ). loaded_reads l d j) after ∙ reads_stored c.args.words.now d j r (omega arith) (reads_back r c.well_formed.1.1.1.0.1.1.0.1 c.well_formed.1.1.1.0.1.1.1.0.1 back), search rules)
