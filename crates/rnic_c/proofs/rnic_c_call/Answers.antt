@@ -13,7 +13,7 @@ unfolding called called_store
 returns-in-0 c =
     let x = c.args in
     let e = sym c.in-0.is in
-    (c.open.ensures.1 ∙ ap (λ n. (called (rnic_at x.device.now) (length x.store.now) n x.a.now x.bytes.now).rnic) e, c.outcome_words.ensures ∙ ap outcome_words c.open.ensures.0 ∙ ap (λ n. (called (rnic_at x.device.now) (length x.store.now) n x.a.now x.bytes.now).words) e, ap (λ n. called_store (rnic_at x.device.now) n x.a.now x.bytes.now x.store.now) e)
+    (c.open-done.ensures.1 ∙ ap (λ n. (called (rnic_at x.device.now) (length x.store.now) n x.a.now x.bytes.now).rnic) e, c.outcome_words.ensures ∙ ap outcome_words c.open-done.ensures.0 ∙ ap (λ n. (called (rnic_at x.device.now) (length x.store.now) n x.a.now x.bytes.now).words) e, ap (λ n. called_store (rnic_at x.device.now) n x.a.now x.bytes.now x.store.now) e)
 
 pub returns-in-1 : goal.returns-in-1
 unfolding called called_store

@@ -5,4 +5,4 @@ use borrow.Author.Rules.{rules}
 use Rattle.calls.proofs.one.call_open.Goals as goal
 
 pub returns : goal.returns
-returns c = (ap (λ r. r.rnic) c.open.ensures, c.outcome_words.ensures ∙ ap (λ r. outcome_words r.outcome) c.open.ensures)
+returns c = (ap (λ r. r.rnic) c.open-done.ensures, c.outcome_words.ensures ∙ ap (λ r. outcome_words r.outcome) c.open-done.ensures)
