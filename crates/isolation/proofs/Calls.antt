@@ -7,7 +7,7 @@ use mathlib.Core.Bool.{Bool, true, false}
 use mathlib.Core.List.{List, []}
 use lib.ListN.{length, take}
 use lib.Dec.{leb, eqb}
-use denote.Ref.{MutBor, at_last}
+use denote.Ref.{Bor, MutBor, at_last}
 use contract.Lifetimes.{Lfts}
 use Rattle.wire.specs.Wire.{pick}
 use Rattle.memory.specs.declared.part.Outcome.{Outcome}
@@ -94,7 +94,7 @@ rooms_after w m s = memory_after w.rooms rooms_bytes m s
 pub record ReceiveStep (w : World) (n : ℕ) (input : List ℕ) (k : ℕ) (a : Answer) (w₁ : World) : Type 0 where
   pub lifetimes : Lfts 2
   pub lent : LentStore w k
-  pub bytes : MutBor (List ℕ)
+  pub bytes : Bor (List ℕ)
   pub given : bytes.now ≡ input
   pub result : RnicReceived
   pub contract : receive-reads.Post lifetimes (w.dev, (lent.slice, (n, (bytes, tt)))) result (w.dev, (at_last lent.slice lent.after, (n, (bytes, tt))))
@@ -131,9 +131,9 @@ Step w (ask_state n) = PlainStep stream-state-reads.Post (w.dev, (n, tt)) stated
 pub record NumberStep (w : World) (c : Numbered) (words : List ℕ) (w₁ : World) : Type 0 where
   pub lifetimes : Lfts 4
   pub lent : LentStore w c.size
-  pub args : MutBor (List ℕ)
+  pub args : Bor (List ℕ)
   pub args_are : args.now ≡ c.args
-  pub bytes : MutBor (List ℕ)
+  pub bytes : Bor (List ℕ)
   pub given : bytes.now ≡ c.input
   pub answer : MutBor (List ℕ)
   pub result : Rnic

@@ -5,7 +5,7 @@ use mathlib.Core.Path.{◌≡◌, refl, sym, ◌∙◌}
 use mathlib.Core.List.{List, [], ◌∷◌}
 use native.Mathlib.Decide.{ℕ_discrete as dec_eq}
 use lib.ListN.{length, replicate, length-replicate}
-use denote.Ref.{Bor}
+use denote.Ref.{Bor, MutBor}
 use contract.Lifetimes.{Lfts}
 use Rattle.rnic.specs.Rnic.{opened_rnic, rnic_opened, rnic_closed, rnic_posted, rnic_taken, rnic_registered, rnic_dropped, rnic_received, rnic_received_store, rnic_live, rnic_free, rnic_ticked, rnic_reading, rnic_state}
 use Rattle.rnic.specs.Offer.{rooms_bytes, rnic_offered_store, rnic_offered_rooms}
@@ -36,6 +36,10 @@ pub record Possible (I : Interface) (w : World) (c : I.Request) : Type 0 where
 abbrev reference : List ℕ → Bor (List ℕ)
 reference l = record { ref_ptr = (0, 0); now = l }
 
+-- and one through which it can be written
+abbrev reference_to_write : List ℕ → MutBor (List ℕ)
+reference_to_write l = record { ref_ptr = (0, 0); ghost_name = 0; now = l }
+
 -- a slice to lend: the memory where it is as long as that, and zeros otherwise
 record Slice (mem : List ℕ) (len size : ℕ) : Type 0 where
   bytes : List ℕ
@@ -51,7 +55,7 @@ slice mem len e size = go (dec_eq size len)
 
 -- that slice lent, holding l afterwards
 abbrev lend : {mem : List ℕ} {len size : ℕ} → Slice mem len size → List ℕ → Lent mem len size
-lend x l = record { slice = reference x.bytes; after = l; long = x.long; whole = x.whole }
+lend x l = record { slice = reference_to_write x.bytes; after = l; long = x.long; whole = x.whole }
 
 -- an offer, whose answer is given in any form
 offers : {R : Type 0} (form : OfferAnswer → R) (w : World) → Fit w → (n : ℕ) (input : List ℕ) (k m : ℕ) → (x : R) × (w₁ : World) × OfferStep form w n input k m x w₁
@@ -121,7 +125,7 @@ by_number_lem w f (by_number c) =
         args_are = refl;
         bytes = reference c.input;
         given = refl;
-        answer = reference [];
+        answer = reference_to_write [];
         result = (called w.dev (length x.bytes) c.number c.args c.input).rnic;
         contract = (refl, refl, refl);
         world = refl;

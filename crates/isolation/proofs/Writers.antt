@@ -38,6 +38,7 @@ use Rattle.rdmap.specs.declared.stream.StreamDone.{StreamDone}
 use Rattle.rdmap.specs.declared.stream.StreamClosed.{StreamClosed}
 use Rattle.rdmap.specs.declared.stream.StreamTaken.{StreamTaken}
 use Rattle.meter.specs.declared.Meter.{Meter}
+use Rattle.meter.specs.Gauge.{ticked_meter}
 use Rattle.domain.specs.Domain.{stream_at, with_stream, with_windows, with_meter, new_domain, domain_opened, domain_closed, domain_posted, domain_taken, domain_registered, domain_dropped, domain_ticked, meter_by, segment_count, metered_of, domain_received, lifted}
 use Rattle.arrival.specs.Parts.{parts_applied, parts_judged, parts_answered, parts_when, parts_received, killed}
 use Rattle.overlap.specs.Sharing.{either, shares, writes, writable, window_shares, windows_share, waiting, buffers_share, streams_share}
@@ -550,7 +551,7 @@ module _ (d : Domain) (k : Sound d) (p : Apart d) where
 
   -- and a tick
   pub ticked_apart : Apart (domain_ticked d)
-  ticked_apart = fewer_apart d _ (meter_fewer d _) p
+  ticked_apart = fewer_apart d _ (meter_fewer d (ticked_meter d.meter)) p
 
   -- and receiving, at once or by offers: a buffer is used, a window invalidated
   lifted_apart : (slot : ℕ) (x : SegmentRead) (r : PartsReceived) → slot < 4 → Less (stream_at d slot) r.stream → Apart (metered_of x (lifted d slot r)).domain
