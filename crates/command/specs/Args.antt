@@ -1,6 +1,6 @@
 -- The words of a line, and what the words of a command can be.
 -- Assumes nothing.
-use Rattle.std.specs.Prelude.{ℕ, zero, suc, ◌+◌, ◌-◌, Bool, true, false, cond, List, [], ◌∷◌, ◌++◌, length, get_or, replicate, eqb, leb, ltb}
+use Rattle.std.specs.Prelude.{ℕ, zero, suc, ◌+◌, ◌-◌, ◌≤◌, ◌≡◌, Bool, true, false, cond, List, [], ◌∷◌, ◌++◌, length, take, get_or, replicate, eqb, leb, ltb}
 use Rattle.wire.specs.Wire.{pick, both, same, part}
 use Rattle.script.specs.Word.{words_from}
 use Rattle.script.specs.Number.{number_of}
@@ -16,6 +16,10 @@ use Rattle.command.specs.declared.args.Words.{Words}
 unfoldable pub listed : {A : Type 0} → ℕ → (ℕ → A) → List A
 listed zero f = []
 listed (suc n) f = listed n f ++ (f n ∷ [])
+
+-- the first n bytes of xs lie in it, and are n
+abbrev pub IsPrefixLen : ℕ → List ℕ → Type 0
+IsPrefixLen n xs = (n ≤ length xs) × (n ≡ length (take n xs))
 
 -- ---- the words of a line
 

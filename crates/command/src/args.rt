@@ -1,8 +1,7 @@
 // The words of a line, and what the words of a command can be.
 ghost use Rattle.std.specs.Prelude.{◌≡◌, ◌≤◌, min, length};
-ghost use Rattle.io.specs.Counts.{IsPrefixLen};
 ghost use Rattle.script.specs.Hex.{decoded_of, decoded_in};
-ghost use Rattle.command.specs.Args.{line_words, words_at, word_of, flag_of, hex_of, number_at, numbers_of};
+ghost use Rattle.command.specs.Args.{IsPrefixLen, line_words, words_at, word_of, flag_of, hex_of, number_at, numbers_of};
 
 use script::hex::{Decoded, decode};
 use script::number::{Number, read_number};
