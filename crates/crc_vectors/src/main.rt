@@ -6,7 +6,7 @@
 
 use crc32c::shift::join;
 use crc32c::{crc32c, update};
-use libc::STDOUT_FILENO;
+use std::io;
 
 // Whether the bytes cut at a place have that CRC, in both ways.
 fn cut_agrees(bytes: &[u8], cut: usize, crc: u32) -> bool {
@@ -36,31 +36,34 @@ fn cuts_agree(bytes: &[u8], crc: u32) -> bool {
 }
 
 // Writes the CRC of some bytes, or that the ways differ.
-fn show(bytes: &[u8]) {
+fn show(rt: &impl Print, bytes: &[u8]) -> io::Result<()> {
     let crc = crc32c(bytes);
     if cuts_agree(bytes, crc) {
-        io::print_hex(STDOUT_FILENO, crc as u64, 8);
+        println!(rt; "{crc:08x}")
     } else {
-        io::write_all(STDOUT_FILENO, b"differs");
+        println!(rt; "differs")
     }
-    io::write_all(STDOUT_FILENO, b"\n");
 }
 
-fn main() {
+fn main(rt: HostRuntime) -> io::Result<()> {
     show(
+        &rt,
         b"\x00\x00\x00\x00\x00\x2a\x41\x43\x00\x00\x00\x00\x00\x00\x00\x00\x00\x00\x00\x01\x00\x00\x00\x00\x00\x00\x00\x00\x00\x00\x00\x00\x00\x00\x00\x00\x00\x00\x00\x00\x00\x00\x00\x00\x00\x00\x00\x00",
-    );
+    )?;
     show(
+        &rt,
         b"\x00\x2a\x41\x43\x00\x00\x00\x00\x00\x00\x00\x00\x00\x00\x00\x02\x00\x00\x00\x00\x00\x00\x00\x14\x00\x00\x00\x00\x00\x00\x00\x00\x00\x00\x00\x00\x00\x00\x00\x00\x00\x00\x00\x00\x00\x00\x00\x00",
-    );
-    show(&[0; 32]);
-    show(&[255; 32]);
+    )?;
+    show(&rt, &[0; 32])?;
+    show(&rt, &[255; 32])?;
     show(
+        &rt,
         b"\x00\x01\x02\x03\x04\x05\x06\x07\x08\x09\x0a\x0b\x0c\x0d\x0e\x0f\x10\x11\x12\x13\x14\x15\x16\x17\x18\x19\x1a\x1b\x1c\x1d\x1e\x1f",
-    );
+    )?;
     show(
+        &rt,
         b"\x1f\x1e\x1d\x1c\x1b\x1a\x19\x18\x17\x16\x15\x14\x13\x12\x11\x10\x0f\x0e\x0d\x0c\x0b\x0a\x09\x08\x07\x06\x05\x04\x03\x02\x01\x00",
-    );
-    show(b"");
-    show(b"123456789");
+    )?;
+    show(&rt, b"")?;
+    show(&rt, b"123456789")
 }

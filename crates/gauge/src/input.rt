@@ -1,69 +1,59 @@
 // Standard input, read in chunks, and standard output.
 ghost use Rattle.std.specs.Prelude.{◌*◌, ◌≤◌, length};
-ghost use Rattle.io.specs.Counts.{IsPrefixLen};
+ghost use Rattle.std.specs.Io.{ReadsAtMost};
 
 use super::run::{start, take_chunk, take_rest};
-use libc::{STDERR_FILENO, STDIN_FILENO, STDOUT_FILENO};
+use std::io;
+use std::io::{Read, Write};
 
-// What one read gives: whether it failed, and how many bytes came, 0 at the end.
-#[derive(Drop)]
-struct Chunk {
-    failed: bool,
-    count: usize,
-}
-
-// Reads some of the input into the chunk.
-fn read_chunk(chunk: &mut [u8]) -> Chunk
-    ensures { IsPrefixLen result.count chunk.new }
+// Reads some of the input into the chunk, says so where that fails, and answers how many bytes came, 0 at the end.
+fn read_chunk(input: &mut impl Read, errors: &mut impl Write, chunk: &mut [u8]) -> io::Result<usize>
+    ensures { ReadsAtMost result chunk.new }
 {
-    let got = libc::read(STDIN_FILENO, chunk);
-    let count = io::count(got, chunk);
-    Chunk {
-        failed: got < 0,
-        count,
+    let got = input.read(chunk);
+    if got.is_err() {
+        let _ = errors.write_all(b"gauge: the input could not be read\n");
     }
+    got
 }
 
-// The descriptor on which `./gauge`, the wrapper, hears that something failed: a program has no exit status.
-const FAILED: i32 = 3;
-
-// Writes the first `count` bytes of the answers, says so where that fails, and answers whether it did.
-fn write_out(out: &[u8], count: usize) -> bool
+// Writes the first `count` bytes of the answers, and says so where that fails.
+fn write_out(
+    output: &mut impl Write,
+    errors: &mut impl Write,
+    out: &[u8],
+    count: usize,
+) -> io::Result<()>
     requires { count ≤ length out.now }
 {
-    if io::write_all(STDOUT_FILENO, &out[..count]) {
-        return false;
+    let written = output.write_all(&out[..count]);
+    if written.is_err() {
+        let _ = errors.write_all(b"gauge: an answer could not be written\n");
     }
-    io::write_all(STDERR_FILENO, b"gauge: an answer could not be written\n");
-    io::write_all(FAILED, b"write\n");
-    true
+    written
 }
 
-// Answers the whole input. A proved loop has to end, and nothing says that the input does: so the loop
-// counts its turns down, from a number that no run uses up.
-pub fn run_input(chunk: &mut [u8], out: &mut [u8])
+// Answers the whole input, or as much of it as can be read and answered. A proved loop has to end, and nothing says that
+// the input does: so the loop has a number of turns that no run uses up.
+pub fn run_input(
+    input: &mut impl Read,
+    output: &mut impl Write,
+    errors: &mut impl Write,
+    chunk: &mut [u8],
+    out: &mut [u8],
+) -> io::Result<()>
     requires { (length chunk.old * 42 ≤ length out.old) × (42 ≤ length out.old) }
 {
-    let mut turns = u64::MAX;
     let mut state = start();
-    while turns > 0 {
-        let got = read_chunk(chunk);
-        if got.failed {
-            io::write_all(STDERR_FILENO, b"gauge: the input could not be read\n");
-            io::write_all(FAILED, b"read\n");
-            return;
-        }
-        let n = got.count;
+    for _ in 0..u64::MAX {
+        let n = read_chunk(input, errors, chunk)?;
         if n == 0 {
             let rest = take_rest(state, out);
-            write_out(out, rest);
-            return;
+            return write_out(output, errors, out, rest);
         }
         let step = take_chunk(state, &chunk[..n], out);
-        if write_out(out, step.count) {
-            return;
-        }
+        write_out(output, errors, out, step.count)?;
         state = step.state;
-        turns -= 1;
     }
+    Ok(())
 }

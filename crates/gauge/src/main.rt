@@ -12,6 +12,8 @@ mod line;
 mod run;
 mod text;
 
+use std::process::ExitCode;
+
 // Room for the answers to a chunk of newlines alone, of 42 bytes each.
 fn new_out() -> [u8; 172032]
     ensures { 172032 ≡ length result }
@@ -19,8 +21,26 @@ fn new_out() -> [u8; 172032]
     [0; 172032]
 }
 
-fn main() {
-    let mut chunk = io::buffer();
+// A chunk of the input, of zeros.
+fn new_chunk() -> [u8; 4096]
+    ensures { 4096 ≡ length result }
+{
+    [0; 4096]
+}
+
+fn main(rt: HostRuntime) -> ExitCode {
+    let mut chunk = new_chunk();
     let mut out = new_out();
-    input::run_input(&mut chunk, &mut out);
+    let ran = input::run_input(
+        &mut rt.stdin(),
+        &mut rt.stdout(),
+        &mut rt.stderr(),
+        &mut chunk,
+        &mut out,
+    );
+    if ran.is_ok() {
+        ExitCode::SUCCESS
+    } else {
+        ExitCode::FAILURE
+    }
 }
