@@ -5,7 +5,7 @@ use mathlib.Core.Path.{◌≡◌}
 use mathlib.Core.Bool.{true}
 use mathlib.Core.List.{List, []}
 use lib.ListN.{length}
-use denote.Ref.{MutBor, at_last}
+use denote.Ref.{Bor, MutBor, at_last}
 use contract.Lifetimes.{Lfts}
 use Rattle.wire.specs.Wire.{pick}
 use Rattle.rnic.specs.Offer.{rooms_bytes}
@@ -37,9 +37,9 @@ pub record CallStep (h : Host) (c : Numbered) (x : List ℕ) (h₁ : Host) : Typ
   pub device : MutBor (List ℕ)
   pub words_are : device.now ≡ h.words
   pub lent : LentStore (world_of h) c.size
-  pub args : MutBor (List ℕ)
+  pub args : Bor (List ℕ)
   pub args_are : args.now ≡ c.args
-  pub bytes : MutBor (List ℕ)
+  pub bytes : Bor (List ℕ)
   pub given : bytes.now ≡ c.input
   pub answer : MutBor (List ℕ)
   pub contract :
@@ -54,7 +54,7 @@ pub record ReceiveStep (h : Host) (n : ℕ) (input : List ℕ) (k : ℕ) (x : Li
   pub device : MutBor (List ℕ)
   pub words_are : device.now ≡ h.words
   pub lent : LentStore (world_of h) k
-  pub bytes : MutBor (List ℕ)
+  pub bytes : Bor (List ℕ)
   pub given : bytes.now ≡ input
   pub answer : MutBor (List ℕ)
   pub contract :
@@ -70,7 +70,7 @@ pub record OfferStep (h : Host) (n : ℕ) (input : List ℕ) (k m : ℕ) (x : Li
   pub words_are : device.now ≡ h.words
   pub lent : LentStore (world_of h) k
   pub second : LentRooms (world_of h) m
-  pub bytes : MutBor (List ℕ)
+  pub bytes : Bor (List ℕ)
   pub given : bytes.now ≡ input
   pub answer : MutBor (List ℕ)
   pub contract :
@@ -92,9 +92,9 @@ pub record Opened (o : Opening) (mem rooms : List ℕ) (h : Host) : Type 0 where
   pub device : MutBor (List ℕ)
   pub slice : MutBor (List ℕ)
   pub after : List ℕ
-  pub args : MutBor (List ℕ)
+  pub args : Bor (List ℕ)
   pub args_are : args.now ≡ opening_numbers o
-  pub bytes : MutBor (List ℕ)
+  pub bytes : Bor (List ℕ)
   pub answer : MutBor (List ℕ)
   pub answered : List ℕ
   pub contract :

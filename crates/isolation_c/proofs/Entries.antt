@@ -2,7 +2,7 @@
 -- and `rnic_c_held`: lifetimes, parameters before, result, parameters after.
 use Prim.Native.Nat.{ℕ}
 use mathlib.Core.List.{List}
-use denote.Ref.{Bor}
+use denote.Ref.{Bor, MutBor}
 use contract.Lifetimes.{Lfts}
 use Rattle.rnic_c.proofs.rnic_c_call.Reads as call-reads
 use Rattle.rnic_c.proofs.rnic_c_receive.Reads as receive-reads
@@ -11,21 +11,21 @@ use Rattle.rnic_c.proofs.rnic_c_held.Reads as held_reads
 
 -- device, store, number, a, bytes, answer
 abbrev pub CallParameters : Type 0
-CallParameters = Bor (List ℕ) × (Bor (List ℕ) × (ℕ × (Bor (List ℕ) × (Bor (List ℕ) × (Bor (List ℕ) × Unit {0})))))
+CallParameters = MutBor (List ℕ) × (MutBor (List ℕ) × (ℕ × (Bor (List ℕ) × (Bor (List ℕ) × (MutBor (List ℕ) × Unit {0})))))
 
 abbrev pub CallPost : Lfts 5 → CallParameters → Unit {0} → CallParameters → Type 0
 CallPost = call-reads.Post
 
 -- device, store, stream, bytes, answer
 abbrev pub ReceiveParameters : Type 0
-ReceiveParameters = Bor (List ℕ) × (Bor (List ℕ) × (ℕ × (Bor (List ℕ) × (Bor (List ℕ) × Unit {0}))))
+ReceiveParameters = MutBor (List ℕ) × (MutBor (List ℕ) × (ℕ × (Bor (List ℕ) × (MutBor (List ℕ) × Unit {0}))))
 
 abbrev pub ReceivePost : Lfts 4 → ReceiveParameters → Unit {0} → ReceiveParameters → Type 0
 ReceivePost = receive-reads.Post
 
 -- device, store, rooms, stream, bytes, answer
 abbrev pub OfferParameters : Type 0
-OfferParameters = Bor (List ℕ) × (Bor (List ℕ) × (Bor (List ℕ) × (ℕ × (Bor (List ℕ) × (Bor (List ℕ) × Unit {0})))))
+OfferParameters = MutBor (List ℕ) × (MutBor (List ℕ) × (MutBor (List ℕ) × (ℕ × (Bor (List ℕ) × (MutBor (List ℕ) × Unit {0})))))
 
 abbrev pub OfferPost : Lfts 5 → OfferParameters → Unit {0} → OfferParameters → Type 0
 OfferPost = offer-reads.Post
