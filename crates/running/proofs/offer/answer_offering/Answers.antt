@@ -19,18 +19,21 @@ returns-in-Offer c =
     let a = c.args in
     let q = offering_of a.kept (length a.store.now) (length a.rooms.now) (length a.bytes.now) a.line.now in
     let t = offer-asked q _ _ _ _ _ _ c.ask-asked.ensures c.in-Offer.is in
-    let whole = (c.make_offer.ensures.within, done_as (rnic_at a.device.now) a.store.now a.rooms.now _ q _ _ _ t c.make_offer.ensures.1) in record { within = whole.0; rnic = whole.1.0; rest = whole.1.1.0; rooms = whole.1.1.1 }
+    let rest = done_as (rnic_at a.device.now) a.store.now a.rooms.now _ q _ _ _ t (c.make_offer.ensures.rnic, (c.make_offer.ensures.rest, c.make_offer.ensures.rooms)) in
+    record { within = c.make_offer.ensures.within; rnic = rest.0; rest = rest.1.0; rooms = rest.1.1 }
 
 pub returns-in-Held : goal.returns-in-Held
 returns-in-Held c =
     let a = c.args in
     let q = offering_of a.kept (length a.store.now) (length a.rooms.now) (length a.bytes.now) a.line.now in
     let t = held-asked q _ _ _ c.ask-asked.ensures c.in-Held.is in
-    let whole = (c.tell_held.ensures, done_as (rnic_at a.device.now) a.store.now a.rooms.now _ q _ _ _ t (refl, (refl, refl))) in record { within = whole.0; rnic = whole.1.0; rest = whole.1.1.0; rooms = whole.1.1.1 }
+    let rest = done_as (rnic_at a.device.now) a.store.now a.rooms.now _ q _ _ _ t (refl, (refl, refl)) in
+    record { within = c.tell_held.ensures; rnic = rest.0; rest = rest.1.0; rooms = rest.1.1 }
 
 pub returns-in-Bad : goal.returns-in-Bad
 returns-in-Bad c =
     let a = c.args in
     let q = offering_of a.kept (length a.store.now) (length a.rooms.now) (length a.bytes.now) a.line.now in
     let t = bad-asked q _ _ c.ask-asked.ensures c.in-Bad.is in
-    let whole = (c.bad.ensures, done_as (rnic_at a.device.now) a.store.now a.rooms.now _ q _ _ _ t (refl, (refl, refl))) in record { within = whole.0; rnic = whole.1.0; rest = whole.1.1.0; rooms = whole.1.1.1 }
+    let rest = done_as (rnic_at a.device.now) a.store.now a.rooms.now _ q _ _ _ t (refl, (refl, refl)) in
+    record { within = c.bad.ensures; rnic = rest.0; rest = rest.1.0; rooms = rest.1.1 }

@@ -40,8 +40,7 @@ slice_bounds-rnic_c_offer-end-4 c = sym (length-take-le _ _ (search rules))
 pub returns : goal.returns
 returns c =
     let a = c.args in
-    let whole = (
-      c.tell_offer.ensures,
-      made (rnic_at a.device.now) a.stream a.bytes.now a.store.now a.rooms.now a.lent a.held _ _ _ _ _
-          c.room-most.ensures c.room-part.ensures (search rules) c.rnic_c_offer.ensures.0 c.rnic_c_offer.ensures.2 c.rnic_c_offer.ensures.3,
-    ) in record { within = whole.0; rnic = whole.1.0; rest = whole.1.1.0; rooms = whole.1.1.1 }
+    let rest =
+    made (rnic_at a.device.now) a.stream a.bytes.now a.store.now a.rooms.now a.lent a.held _ _ _ _ _
+    c.room-most.ensures c.room-part.ensures (search rules) c.rnic_c_offer.ensures.0 c.rnic_c_offer.ensures.2 c.rnic_c_offer.ensures.3
+    in record { within = c.tell_offer.ensures; rnic = rest.0; rest = rest.1.0; rooms = rest.1.1 }

@@ -6,4 +6,4 @@ use Rattle.running.proofs.offer.run_offering.Goals as goal
 pub returns : goal.returns
 returns c =
     let a = c.args in
-    let whole = (c.answer_offering-n.ensures.within, (kept_as a.kept _ _ c.answer_offering-n.ensures.rnic, c.answer_offering-n.ensures.1.1)) in record { within = whole.0; state = whole.1.0; rest = whole.1.1.0; rooms = whole.1.1.1 }
+    record { within = c.answer_offering-n.ensures.within; state = kept_as a.kept _ _ c.answer_offering-n.ensures.rnic; rest = c.answer_offering-n.ensures.rest; rooms = c.answer_offering-n.ensures.rooms }

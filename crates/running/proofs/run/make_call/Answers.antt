@@ -31,23 +31,22 @@ slice_bounds-rnic_c_call-end-3 c = sym (length-take-le _ _ (search rules))
 pub returns : goal.returns
 returns c =
     let x = c.args in
-    let whole = (
-      c.tell.ensures,
-      made
-          (rnic_at x.device.now)
-          x.asked.number
-          x.asked.numbers
-          x.bytes.now
-          x.store.now
-          x.asked.lent
-          x.asked.size
-          _
-          _
-          _
-          _
-          c.room-lent.ensures
-          c.room-size.ensures
-          (search rules)
-          c.rnic_c_call.ensures.0
-          c.rnic_c_call.ensures.2,
-    ) in record { within = whole.0; rnic = whole.1.0; rest = whole.1.1 }
+    let rest =
+    made
+    (rnic_at x.device.now)
+    x.asked.number
+    x.asked.numbers
+    x.bytes.now
+    x.store.now
+    x.asked.lent
+    x.asked.size
+    _
+    _
+    _
+    _
+    c.room-lent.ensures
+    c.room-size.ensures
+    (search rules)
+    c.rnic_c_call.ensures.0
+    c.rnic_c_call.ensures.2
+    in record { within = c.tell.ensures; rnic = rest.0; rest = rest.1 }

@@ -14,7 +14,8 @@ use Rattle.running.proofs.run.run_asked.Goals as goal
 pub returns-then-line-count : goal.returns-then-line-count
 returns-then-line-count c =
     let a = c.args in
-    let whole = (c.bad-n.ensures, rw (lt-leb a.count (length a.line.now) (omega arith)) (refl, refl)) in record { within = whole.0; state = whole.1.0; rest = whole.1.1 }
+    let t = lt-leb a.count (length a.line.now) c.if-line-count.true in
+    record { within = c.bad-n.ensures; state = rw t; rest = rw t }
 
 pub slice_bounds-ask-end : goal.slice_bounds-ask-end
 slice_bounds-ask-end c = sym (length-take-le _ _ (search rules))
@@ -22,21 +23,19 @@ slice_bounds-ask-end c = sym (length-take-le _ _ (search rules))
 pub returns-then-asked : goal.returns-then-asked
 returns-then-asked c =
     let a = c.args in
-    let whole = (
-      search rules,
-      rw (le-leb a.count (length a.line.now) (omega (arith, c.if-line-count.false)))
-          (call-made (state_at a.kept a.device.now) c.ask-asked.new.bytes a.store.now c.ask-asked.new.store c.ask-asked.result
-          (request_of a.kept (length a.bytes.now) (length a.store.now) (take a.count a.line.now))
-          c.ask-asked.ensures.asks c.if-asked.true (rnic_at c.make_call-n.new.device) c.make_call-n.new.store c.make_call-n.ensures.rnic c.make_call-n.ensures.rest),
-    ) in record { within = whole.0; state = whole.1.0; rest = whole.1.1 }
+    let t = le-leb a.count (length a.line.now) c.if-line-count.false in
+    let made =
+    call-made (state_at a.kept a.device.now) c.ask-asked.new.bytes a.store.now c.ask-asked.new.store c.ask-asked.result
+    (request_of a.kept (length a.bytes.now) (length a.store.now) (take a.count a.line.now))
+    c.ask-asked.ensures.asks c.if-asked.true (rnic_at c.make_call-n.new.device) c.make_call-n.new.store c.make_call-n.ensures.rnic c.make_call-n.ensures.rest
+    in record { within = search rules; state = rw t made.0; rest = rw t made.1 }
 
 pub returns : goal.returns
 returns c =
     let a = c.args in
-    let whole = (
-      c.ask-asked.ensures.within,
-      rw (le-leb a.count (length a.line.now) (omega (arith, c.if-line-count.false)))
-          (no_call-made (state_at a.kept a.device.now) c.ask-asked.new.bytes a.store.now c.ask-asked.new.store c.ask-asked.result
-          (request_of a.kept (length a.bytes.now) (length a.store.now) (take a.count a.line.now))
-          c.ask-asked.ensures.asks c.if-asked.false),
-    ) in record { within = whole.0; state = whole.1.0; rest = whole.1.1 }
+    let t = le-leb a.count (length a.line.now) c.if-line-count.false in
+    let made =
+    no_call-made (state_at a.kept a.device.now) c.ask-asked.new.bytes a.store.now c.ask-asked.new.store c.ask-asked.result
+    (request_of a.kept (length a.bytes.now) (length a.store.now) (take a.count a.line.now))
+    c.ask-asked.ensures.asks c.if-asked.false
+    in record { within = c.ask-asked.ensures.within; state = rw t made.0; rest = rw t made.1 }
