@@ -2,13 +2,13 @@
 -- compose, and the CRC of two pieces is theirs joined.
 -- Assumes nothing.
 use mathlib.Core.Path.{◌≡◌, refl, sym, ap, ap₂, ◌∙◌, subst}
-use mathlib.Core.List.{List, [], ◌∷◌, ◌++◌}
+use mathlib.Core.List.{List, ◌++◌}
 use Prim.Native.Nat.{ℕ, zero, suc, ◌+◌, ◌-◌, ◌*◌, ◌/◌, ◌%◌, ◌^◌, ◌<◌}
-use native.Mathlib.Nat.{pow-suc, suc-add, zero-add, add_comm, mul-zero, mul-one, mul_assoc, mul_comm, add-mul, div-add-mod', mod-eq_of_lt}
+use native.Mathlib.Nat.{pow-suc, add_comm, mul-zero, mul-one, mul_assoc, mul_comm, add-mul, div-add-mod', mod-eq_of_lt}
 use native.Mathlib.Omega.{arith}
 use lib.Dec.{lit<}
 use lib.Pow.{pow-add, pow_pos}
-use lib.ListN.{length, get_or, replicate}
+use lib.ListN.{length, replicate}
 use lib.Bits.{differ, bit_xor, bit_and, xor_zero_l, xor_zero_r, xor_self, xor_comm, xor_lt, xor_shifted, xor_add_and, and_comm, and_mask}
 use Rattle.crc_bits.specs.Crc.{xor32, poly, crc_bit, crc_bits_of, crc_byte, crc_run, crc_of, all_ones}
 use Rattle.crc_bits.specs.Shift.{one, times_bits, times, power_of, joined}

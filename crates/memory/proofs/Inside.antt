@@ -22,9 +22,7 @@ use Rattle.memory.specs.declared.buffer.Posted.{Posted}
 use Rattle.memory.specs.declared.buffer.FirstBuffer.TheVariants.{Waiting, NoneWaiting}
 use Rattle.memory.specs.declared.window.Window.{Window}
 use Rattle.memory.specs.declared.window.WindowDone.{WindowDone}
-use Rattle.memory.specs.declared.window.Found.{Found}
 use Rattle.memory.specs.declared.window.Found.TheVariants.{Slot, Foreign, Missing}
-use Rattle.memory.specs.declared.window.Span.{Span}
 use Rattle.memory.specs.declared.window.Span.TheVariants.{Inside, Wrap, Outside}
 use Rattle.memory.proofs.Laws.{both_left, both_right, part_bound}
 

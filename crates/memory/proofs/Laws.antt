@@ -9,7 +9,7 @@ use lib.ListN.{length, get_or, drop, drop_of_length-le}
 use lib.Seq.{drop-cons}
 use lib.Dec.{leb, ltb}
 use borrow.Author.Tests.{leb-true, leb-false, le-leb, lt-leb}
-use Rattle.wire.specs.Wire.{pick, both}
+use Rattle.wire.specs.Wire.{both}
 use Rattle.wire.proofs.Laws.{both_true}
 use Rattle.memory.specs.Part.{in_part, part_fits}
 use Rattle.memory.specs.Window.{in_range, window_fits}

@@ -1,5 +1,5 @@
 -- The untagged buffers that wait on a stream.
-use Rattle.std.specs.Prelude.{ℕ, ◌+◌, ◌-◌, List, [], ◌∷◌, ◌++◌, get_or, set, drop, ltb, eqb}
+use Rattle.std.specs.Prelude.{ℕ, ◌+◌, ◌-◌, [], ◌∷◌, ◌++◌, get_or, set, drop, ltb, eqb}
 use Rattle.wire.specs.Wire.{pick}
 use Rattle.memory.specs.Part.{in_part}
 use Rattle.memory.specs.declared.part.Part.{Part}

@@ -1,5 +1,5 @@
 -- FPDUs (RFC 5044, section 4): what one is, what writing one does and what reading one finds.
-use Rattle.std.specs.Prelude.{ℕ, ◌+◌, ◌-◌, ◌%◌, Bool, true, false, not, List, [], ◌++◌, length, take, drop, replicate, ltb, eqb}
+use Rattle.std.specs.Prelude.{ℕ, ◌+◌, ◌-◌, ◌%◌, Bool, not, List, ◌++◌, length, take, drop, replicate, ltb, eqb}
 use Rattle.wire.specs.Wire.{pick, both, be16, be16_at, le32, le32_at}
 use Rattle.crc32c.specs.Crc.{crc_of}
 use Rattle.wire.specs.declared.Written.{Written}

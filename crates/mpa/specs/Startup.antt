@@ -1,5 +1,5 @@
 -- Startup frames (RFC 5044, section 7.1), revision 1.
-use Rattle.std.specs.Prelude.{ℕ, ◌+◌, ◌/◌, ◌%◌, Bool, true, false, not, List, [], ◌∷◌, ◌++◌, length, take, get_or, ltb, leb, eqb}
+use Rattle.std.specs.Prelude.{ℕ, ◌+◌, ◌/◌, ◌%◌, Bool, true, not, List, [], ◌∷◌, ◌++◌, length, take, get_or, ltb, leb, eqb}
 use Rattle.wire.specs.Wire.{pick, both, same, be16, be16_at}
 use Rattle.mpa.specs.Fpdu.{out_after}
 use Rattle.wire.specs.declared.Written.{Written}

@@ -1,13 +1,9 @@
 -- Messages: what a segment that DDP let pass is judged to be, by rules 33 to 38 in their order.
-use Rattle.std.specs.Prelude.{ℕ, ◌+◌, ◌/◌, ◌%◌, Bool, true, false, List, length, get_or, leb, ltb, eqb}
+use Rattle.std.specs.Prelude.{ℕ, ◌+◌, ◌/◌, ◌%◌, Bool, true, List, length, get_or, leb, eqb}
 use Rattle.wire.specs.Wire.{pick, both, be32_at}
 use Rattle.memory.specs.Window.{found_in, spanned}
-use Rattle.ddp.specs.Tagged.{tagged_of}
-use Rattle.ddp.specs.Untagged.{untagged_of}
 use Rattle.memory.specs.declared.buffer.Buffer.{Buffer}
-use Rattle.ddp.specs.declared.header.TaggedHeader.{TaggedHeader}
 use Rattle.ddp.specs.declared.header.UntaggedHeader.{UntaggedHeader}
-use Rattle.ddp.specs.declared.refusal.Refusal.{Refusal}
 use Rattle.ddp.specs.declared.tagged.Tagged.{Tagged}
 use Rattle.ddp.specs.declared.tagged.Tagged.TheVariants.{Nowhere, At as TaggedAt, Refused as TaggedRefused}
 use Rattle.ddp.specs.declared.untagged.Queue.{Queue}
@@ -24,7 +20,6 @@ use Rattle.rdmap.specs.Terminates.{terminate_queue}
 use Rattle.rdmap.specs.Refusal.{rdmap_version, unexpected_opcode, no_write_right, invalidate_foreign, invalidate_missing, malformed, source_foreign, source_missing, source_wrap, source_bounds, no_read_right}
 use Rattle.rdmap.specs.declared.message.Control.{Control}
 use Rattle.rdmap.specs.declared.message.Control.TheVariants.{Valid, Refused as ControlRefused}
-use Rattle.rdmap.specs.declared.message.Invalidate.{Invalidate}
 use Rattle.rdmap.specs.declared.message.Invalidate.TheVariants.{NoStag, Stag}
 use Rattle.rdmap.specs.declared.message.Verdict.{Verdict}
 use Rattle.rdmap.specs.declared.message.Verdict.TheVariants.{Refused, Nothing, Write, SendMore, SendLast, Read, Terminate}

@@ -1,12 +1,12 @@
 -- What two sides agree is consistent: where a responder answers an initiator's terms, the initiator settles by the reply, it has one kind for its first message that both
 -- said, its ORD is at most the responder's IRD, and the responder's ORD is at most its IRD, unless the initiator left the depth out of the negotiation.
 -- Assumes nothing.
-use Prim.Native.Nat.{ℕ, ◌/◌, ◌%◌, ◌≤◌, min}
+use Prim.Native.Nat.{ℕ, ◌≤◌, min}
 use mathlib.Core.Bool.{Bool, true, false}
 use mathlib.Core.Path.{◌≡◌, refl, sym, ap, ap₂, ◌∙◌, subst}
 use native.Mathlib.Omega.{arith}
 use lib.Dec.{leb, eqb}
-use borrow.Author.Tests.{leb-true, le-leb, eqb-true, eqb-false, eq-eqb, ne_eqb}
+use borrow.Author.Tests.{leb-true, le-leb, eqb-true, eqb-false}
 use Rattle.wire.specs.Wire.{pick, both}
 use Rattle.wire.proofs.Laws.{both_true}
 use Rattle.startup2.specs.declared.Terms.{Terms}

@@ -2,25 +2,25 @@
 -- Assumes nothing.
 use Prim.Native.Nat.{ℕ, ◌+◌, ◌-◌, ◌*◌, ◌/◌, ◌%◌, ◌≤◌}
 use mathlib.Core.Bool.{Bool, true, false}
-use mathlib.Core.List.{List, [], ◌∷◌, ◌++◌}
-use mathlib.Core.Path.{◌≡◌, refl, sym, ap, ap₂, ◌∙◌}
+use mathlib.Core.List.{List, ◌++◌}
+use mathlib.Core.Path.{◌≡◌, refl, ap, ap₂, ◌∙◌}
 use native.Mathlib.Omega.{arith}
-use lib.Dec.{ltb, leb, eqb}
+use lib.Dec.{leb, eqb}
 use lib.ListN.{length, get_or, take, drop, length-append}
 use lib.Seq.{take_at}
 use borrow.Author.Tests.{le-ltb, le-leb}
-use Rattle.wire.specs.Wire.{pick, both, same, part, be16, be16_at}
+use Rattle.wire.specs.Wire.{pick, both, same, part, be16_at}
 use Rattle.wire.specs.declared.Written.{Written}
 use Rattle.wire.specs.declared.Written.TheVariants.{Length, Refused as NotWritten}
-use Rattle.wire.proofs.Laws.{be16_at-be16, same_refl}
+use Rattle.wire.proofs.Laws.{same_refl}
 use Rattle.mpa.specs.Fpdu.{out_after}
 use Rattle.mpa.specs.Startup.{max_private, key_of, flag_m, flag_c, flag_r, startup_of, startup_written, startup_read}
-use Rattle.mpa.proofs.Startups.{Admitted, admitted, startup_back, private_back}
+use Rattle.mpa.proofs.Startups.{Admitted, admitted, startup_back}
 use Rattle.startup2.specs.declared.Terms.{Terms}
 use Rattle.startup2.specs.declared.Form.{Form}
 use Rattle.startup2.specs.declared.FrameRead.{FrameRead}
 use Rattle.startup2.specs.Terms.{terms_fit, first_half, second_half, terms_of, terms_at, halves_terms, said_of}
-use Rattle.startup2.specs.Frame.{flags2_of, head_of, startup2_of, frame_of, data_of, form_fits, frame_written, frame_out, flag_s, terms_there, head2_right, whole_of, taken2_of, second_read, first_read, frame_read, said_form}
+use Rattle.startup2.specs.Frame.{flags2_of, startup2_of, frame_of, data_of, form_fits, frame_written, frame_out, flag_s, terms_there, head2_right, whole_of, taken2_of, second_read, first_read, frame_read, said_form}
 use Rattle.startup2.proofs.Fits.{Fit, fit}
 use Rattle.startup2.proofs.Halves.{halves_small, halves_back}
 

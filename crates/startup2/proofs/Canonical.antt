@@ -10,7 +10,7 @@ use lib.ListN.{length, get_or, take}
 use borrow.Author.Tests.{ltb-false, leb-false, eqb-true}
 use Rattle.wire.specs.Wire.{pick, both, part, be16, be16_at}
 use Rattle.wire.proofs.Laws.{Bytes, be16-be16_at, part-add, part-one, length_part, same-eq}
-use Rattle.mpa.specs.Startup.{max_private, key_of, flag_m, flag_c, flag_r, startup_read}
+use Rattle.mpa.specs.Startup.{key_of, flag_m, flag_c, flag_r, startup_read}
 use Rattle.mpa.specs.declared.StartupRead.{StartupRead}
 use Rattle.mpa.specs.declared.StartupRead.TheVariants.{Wait as Wait1, Refused as Refused1, Taken as Taken1}
 use Rattle.mpa.proofs.Startups.{counts, startup_canonical}

@@ -7,12 +7,12 @@ use mathlib.Core.Path.{◌≡◌, refl, sym, ap, ap₂, ◌∙◌}
 use native.Mathlib.Omega.{arith}
 use lib.Dec.{leb}
 use lib.ListN.{length}
-use borrow.Author.Tests.{le-leb, lt-leb, leb-true, leb-false}
+use borrow.Author.Tests.{le-leb, lt-leb, leb-true}
 use Rattle.wire.specs.Wire.{pick, part, be16, be16_at}
 use Rattle.wire.proofs.Laws.{Bytes, be16_at-lt, be16-be16_at, part-add}
 use Rattle.startup2.specs.declared.Terms.{Terms}
-use Rattle.startup2.specs.Terms.{max_depth, terms_fit, kinds_of, said_of, first_half, second_half, terms_of, halves_terms, terms_at}
-use Rattle.startup2.proofs.Fits.{Fit, fit}
+use Rattle.startup2.specs.Terms.{max_depth, kinds_of, said_of, first_half, second_half, terms_of, halves_terms, terms_at}
+use Rattle.startup2.proofs.Fits.{Fit}
 
 -- of the numbers themselves, by A
 halves : (p : Bool) (k i o : ℕ) → k ≤ 7 → i ≤ max_depth → o ≤ max_depth →

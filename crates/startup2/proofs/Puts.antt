@@ -6,12 +6,12 @@ use mathlib.Core.List.{List, [], ◌∷◌, ◌++◌}
 use mathlib.Core.Path.{◌≡◌, refl, ap, ap₂, ◌∙◌}
 use native.Mathlib.Omega.{arith}
 use lib.ListN.{length, set}
-use Rattle.wire.specs.Wire.{pick, put, be16}
+use Rattle.wire.specs.Wire.{put, be16}
 use Rattle.wire.specs.declared.Written.{Written}
 use Rattle.wire.specs.declared.Written.TheVariants.{Refused as NotWritten}
 use Rattle.wire.proofs.Laws.{put-put, set_2, length-put}
 use Rattle.mpa.specs.Fpdu.{out_after}
-use Rattle.mpa.specs.Startup.{key_of, startup_of, startup_written, startup_out}
+use Rattle.mpa.specs.Startup.{key_of, startup_written, startup_out}
 use Rattle.startup2.specs.declared.Terms.{Terms}
 use Rattle.startup2.specs.declared.Form.{Form}
 use Rattle.startup2.specs.Terms.{terms_fit, first_half, second_half, terms_of}

@@ -1,5 +1,5 @@
 -- Startup frames of both revisions (RFC 6581, section 6): those of revision 1 are as RFC 5044 has them.
-use Rattle.std.specs.Prelude.{ℕ, ◌+◌, ◌-◌, ◌/◌, ◌%◌, Bool, true, false, List, [], ◌∷◌, ◌++◌, length, take, get_or, ltb, leb, eqb}
+use Rattle.std.specs.Prelude.{ℕ, ◌+◌, ◌-◌, ◌/◌, ◌%◌, Bool, true, false, List, ◌∷◌, ◌++◌, length, take, get_or, ltb, leb, eqb}
 use Rattle.wire.specs.Wire.{pick, both, same, be16, be16_at}
 use Rattle.wire.specs.declared.Written.{Written}
 use Rattle.wire.specs.declared.Written.TheVariants.{Refused as NotWritten}
@@ -7,7 +7,6 @@ use Rattle.mpa.specs.Fpdu.{out_after}
 use Rattle.mpa.specs.Startup.{max_private, key_of, flags_of, flag_m, flag_c, flag_r, startup_of, startup_written, startup_read}
 use Rattle.mpa.specs.declared.StartupRead.{StartupRead}
 use Rattle.mpa.specs.declared.StartupRead.TheVariants.{Wait as Wait1, Refused as Refused1, Taken as Taken1}
-use Rattle.startup2.specs.declared.Terms.{Terms}
 use Rattle.startup2.specs.declared.Form.{Form}
 use Rattle.startup2.specs.declared.FrameRead.{FrameRead}
 use Rattle.startup2.specs.Terms.{terms_fit, terms_of, terms_at, said_of}

@@ -2,7 +2,6 @@
 -- Assumes nothing.
 use mathlib.Core.Path.{ap}
 use Prim.Native.Nat.{ℕ, ◌-◌}
-use borrow.Author.Rules.{rules}
 use Rattle.crc_bits.specs.Crc.{crc_of, all_ones}
 use Rattle.crc32c.proofs.crc32c.Goals as goal
 

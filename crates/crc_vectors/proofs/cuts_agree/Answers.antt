@@ -1,8 +1,5 @@
 -- `cuts_agree` ends: the place moves on up to the bytes' end.
-use Prim.Native.Nat.{◌-◌, ◌≤◌, zero-le}
-use native.Mathlib.Omega.{arith}
-use lib.ListN.{length}
-use borrow.Author.Rules.{rules}
+use Prim.Native.Nat.{zero-le}
 use Rattle.crc_vectors.proofs.cuts_agree.Goals as goal
 
 pub loop-cut-init : goal.loop-cut-init

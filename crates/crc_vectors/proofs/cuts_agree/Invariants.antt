@@ -1,8 +1,6 @@
 -- `cuts_agree` ends: the place moves on up to the bytes' end.
-use Prim.Native.Nat.{◌-◌, ◌≤◌, zero-le}
-use native.Mathlib.Omega.{arith}
+use Prim.Native.Nat.{◌-◌, ◌≤◌}
 use lib.ListN.{length}
-use borrow.Author.Rules.{rules}
 use Rattle.crc_vectors.proofs.cuts_agree.Given as goal
 
 abbrev pub invariant-loop-cut : goal.invariant-loop-cut

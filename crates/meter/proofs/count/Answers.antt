@@ -1,5 +1,4 @@
 -- `count` meets its contract: the count is what `counted` gives.
-use borrow.Author.Rules.{rules}
 use Rattle.meter.proofs.count.Goals as goal
 
 pub returns : goal.returns

@@ -1,5 +1,4 @@
 -- `tick` meets its contract: the gauge is what `sampled` makes of the count.
-use borrow.Author.Rules.{rules}
 use Rattle.meter.proofs.tick.Goals as goal
 
 pub returns : goal.returns

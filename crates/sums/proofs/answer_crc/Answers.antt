@@ -5,7 +5,6 @@ use mathlib.Core.List.{List}
 use lib.ListN.{length}
 use Rattle.command.proofs.Read.{counted, other_count}
 use Rattle.sums.specs.Sums.{whole_sum, carried_sum, crc_answer}
-use borrow.Author.Rules.{rules}
 use Rattle.sums.proofs.answer_crc.Goals as goal
 
 pub returns-then-words-eq2 : goal.returns-then-words-eq2

@@ -2,7 +2,6 @@
 use mathlib.Core.Path.{◌∙◌}
 use Rattle.command.proofs.Read.{counted, other_count}
 use Rattle.sums.specs.Sums.{joined_sum, join_answer}
-use borrow.Author.Rules.{rules}
 use Rattle.sums.proofs.answer_join.Goals as goal
 
 pub returns-then-words-ne4 : goal.returns-then-words-ne4

@@ -4,7 +4,6 @@ use mathlib.Core.List.{List}
 use Rattle.wire.specs.Wire.{same}
 use Rattle.command.proofs.Read.{read_as}
 use Rattle.sums.specs.Sums.{crc_name, join_name, sum_answer}
-use borrow.Author.Rules.{rules}
 use Rattle.sums.proofs.answer_sum.Goals as goal
 
 pub returns-then-same : goal.returns-then-same

@@ -6,7 +6,6 @@ use Rattle.command.proofs.Read.{no_hex}
 use Rattle.sums.specs.Sums.{crc_on, carried_sum}
 use Rattle.sums.specs.declared.Sum.TheVariants.{Crc}
 use Rattle.sums.proofs.Words.{bytes_read}
-use borrow.Author.Rules.{rules}
 use Rattle.sums.proofs.carried_sum.Goals as goal
 
 pub returns-in_default : goal.returns-in_default

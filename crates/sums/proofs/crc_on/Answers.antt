@@ -3,7 +3,6 @@ use mathlib.Core.Path.{ap}
 use Prim.Native.Nat.{ℕ, ◌-◌}
 use Rattle.crc32c.specs.Crc.{all_ones}
 use Rattle.sums.specs.Sums.{crc_on}
-use borrow.Author.Rules.{rules}
 use Rattle.sums.proofs.crc_on.Goals as goal
 
 pub returns : goal.returns

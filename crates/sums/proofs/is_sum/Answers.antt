@@ -1,7 +1,6 @@
 -- `is_sum` meets its contract: each answer goes by the comparisons, which are those of the definition.
 use mathlib.Core.Path.{sym, ◌∙◌}
 use Rattle.sums.specs.Sums.{is_sum}
-use borrow.Author.Rules.{rules}
 use Rattle.sums.proofs.is_sum.Goals as goal
 
 pub returns-then-same : goal.returns-then-same

@@ -3,7 +3,6 @@ use mathlib.Core.Path.{sym, ap, ◌∙◌}
 use borrow.Author.Tests.{le-leb, lt-leb}
 use Rattle.sums.specs.Sums.{joined_sum}
 use Rattle.sums.specs.declared.Sum.TheVariants.{Crc}
-use borrow.Author.Rules.{rules}
 use Rattle.sums.proofs.joined_sum.Goals as goal
 
 pub returns-in_default : goal.returns-in_default

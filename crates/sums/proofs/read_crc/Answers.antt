@@ -3,7 +3,6 @@ use mathlib.Core.Path.{refl, ap, ◌∙◌}
 use lib.ListN.{replicate}
 use Rattle.sums.specs.declared.Sum.TheVariants.{Crc}
 use Rattle.sums.proofs.Words.{crc_read, crc_none, crc_other}
-use borrow.Author.Rules.{rules}
 use Rattle.sums.proofs.read_crc.Goals as goal
 
 pub returns-then-w-ne8 : goal.returns-then-w-ne8

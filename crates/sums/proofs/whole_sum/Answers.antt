@@ -7,7 +7,6 @@ use Rattle.command.proofs.Read.{no_hex}
 use Rattle.sums.specs.Sums.{whole_sum}
 use Rattle.sums.specs.declared.Sum.TheVariants.{Crc}
 use Rattle.sums.proofs.Words.{bytes_read}
-use borrow.Author.Rules.{rules}
 use Rattle.sums.proofs.whole_sum.Goals as goal
 
 pub returns-then-hex : goal.returns-then-hex

@@ -1,6 +1,5 @@
 -- `flag_of` meets its contract: each answer goes by the two comparisons, which are those of the definition.
 use mathlib.Core.Path.{sym, ◌∙◌}
-use borrow.Author.Rules.{rules}
 use Rattle.command.proofs.args.flag_of.Goals as goal
 
 pub returns-then-same : goal.returns-then-same

@@ -1,7 +1,6 @@
 -- `number_at` meets its contract: as many words as are counted are those of the line.
-use mathlib.Core.Path.{◌≡◌, sym, ap, ◌∙◌}
+use mathlib.Core.Path.{ap, ◌∙◌}
 use native.Mathlib.Omega.{arith}
-use borrow.Author.Rules.{rules}
 use borrow.Author.Tests.{lt-ltb, le-ltb}
 use Rattle.script.specs.Number.{number_of}
 use Rattle.command.proofs.Listed.{words_count}

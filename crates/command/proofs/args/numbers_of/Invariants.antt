@@ -1,16 +1,11 @@
 -- `numbers_of` meets its contract: the words read so far are numbers, and they stand in the first places. The measure is how many are left.
 use Prim.Native.Nat.{◌+◌, ◌-◌, ◌≤◌}
-use mathlib.Core.Path.{◌≡◌, refl, sym, ap, ◌∙◌}
+use mathlib.Core.Path.{◌≡◌}
 use mathlib.Core.Bool.{true}
 use mathlib.Core.List.{◌++◌}
-use native.Mathlib.Omega.{arith}
-use lib.Dec.{eqb}
-use lib.ListN.{length, replicate}
-use borrow.Author.Rules.{rules}
-use borrow.Author.Tests.{eq-eqb, ne_eqb}
-use Rattle.command.specs.Args.{listed, words_at, number_at, all_numbers}
-use Rattle.command.proofs.Listed.{words_count}
-use Rattle.command.proofs.Gathered.{values, value_joins, number_joins, none-counted, none_read, all_read}
+use lib.ListN.{replicate}
+use Rattle.command.specs.Args.{words_at, number_at, all_numbers}
+use Rattle.command.proofs.Gathered.{values}
 use Rattle.command.proofs.args.numbers_of.Given as goal
 
 abbrev pub invariant-loop-i : goal.invariant-loop-i

@@ -1,12 +1,9 @@
 -- `split` meets its contract: the words at the places kept so far, and those from there on, are the line's words. The measure is how many places are left.
-use Prim.Native.Nat.{◌-◌, ◌≤◌}
-use mathlib.Core.Path.{◌≡◌, refl, sym, ◌∙◌}
-use mathlib.Core.List.{◌++◌}
+use Prim.Native.Nat.{◌-◌}
+use mathlib.Core.Path.{refl, sym, ◌∙◌}
 use native.Mathlib.Omega.{arith}
-use lib.ListN.{length, length-set}
-use borrow.Author.Rules.{rules}
-use Rattle.script.specs.Word.{words_from}
-use Rattle.command.specs.Args.{listed, line_words, words_at}
+use lib.ListN.{length-set}
+use Rattle.command.specs.Args.{listed, words_at}
 use Rattle.command.proofs.Places.{kept, no_more, none_left, all_found, found}
 use Rattle.command.proofs.args.split.Goals as goal
 

@@ -1,8 +1,7 @@
 -- `word` meets its contract: a word at kept places that lie in the line is that part of it, and any other has no bytes.
 use mathlib.Core.Path.{◌≡◌, sym}
 use native.Mathlib.Omega.{arith}
-use lib.ListN.{length, length-map}
-use borrow.Author.Rules.{rules}
+use lib.ListN.{length}
 use Rattle.command.proofs.Places.{word_none, word_unkept, word_turned, word-past, word-is}
 use Rattle.command.proofs.args.word.Goals as goal
 

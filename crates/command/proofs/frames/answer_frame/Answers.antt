@@ -1,7 +1,6 @@
 -- `answer_frame` meets its contract: each command is answered by what the writer or the reader that it calls ensures.
 use mathlib.Core.Path.{ap}
 use Rattle.command.specs.declared.frames.FrameAnswer.TheVariants.{Wrote, Fpdu, Startup}
-use borrow.Author.Rules.{rules}
 use Rattle.command.proofs.frames.answer_frame.Goals as goal
 
 pub returns-in-Fpdu : goal.returns-in-Fpdu

@@ -1,13 +1,9 @@
 -- `ask_command` meets its contract: each answer goes by the comparisons of the first word, which are those of the definition.
 use Prim.Native.Nat.{ℕ}
-use mathlib.Core.Path.{◌≡◌}
-use mathlib.Core.Bool.{false}
 use mathlib.Core.List.{List}
 use Rattle.wire.specs.Wire.{same}
-use Rattle.command.specs.Args.{words_at, word_of}
 use Rattle.command.specs.Frames.{fpdu_name, unframe_name, startup_name, unstartup_name, command_asked}
 use Rattle.command.proofs.Read.{read_as}
-use borrow.Author.Rules.{rules}
 use Rattle.command.proofs.frames.ask_command.Goals as goal
 
 pub returns-then-same : goal.returns-then-same

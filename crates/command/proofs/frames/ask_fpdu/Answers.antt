@@ -2,7 +2,6 @@
 use Rattle.script.specs.Number.{number_of}
 use Rattle.command.specs.Frames.{fpdu_asked}
 use Rattle.command.proofs.Read.{counted, other_count, read_as}
-use borrow.Author.Rules.{rules}
 use Rattle.command.proofs.frames.ask_fpdu.Goals as goal
 
 pub returns-then-words-ne3 : goal.returns-then-words-ne3

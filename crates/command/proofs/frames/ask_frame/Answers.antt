@@ -1,7 +1,6 @@
 -- `ask_frame` meets its contract: the command with the count of its bytes, which were written, or no command.
 use Rattle.command.specs.Args.{words_at}
 use Rattle.command.proofs.Asked.{asked_hex, asked-none}
-use borrow.Author.Rules.{rules}
 use Rattle.command.proofs.frames.ask_frame.Goals as goal
 
 pub returns-then-hex : goal.returns-then-hex

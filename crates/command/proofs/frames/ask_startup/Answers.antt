@@ -1,16 +1,7 @@
 -- `ask_startup` meets its contract: the words are counted, and the three flags and ROOM are read, as the definition has it.
-use Prim.Native.Nat.{ℕ}
-use mathlib.Core.Path.{◌≡◌}
-use mathlib.Core.Bool.{true}
-use mathlib.Core.List.{List}
-use lib.ListN.{length}
-use lib.Dec.{eqb}
 use Rattle.script.specs.Number.{number_of}
-use Rattle.command.specs.Args.{words_at, word_of}
 use Rattle.command.specs.Frames.{reply_of, bit_of, startup_asked}
-use Rattle.command.specs.declared.args.Flag.{Flag}
 use Rattle.command.proofs.Read.{counted, other_count, read_as}
-use borrow.Author.Rules.{rules}
 use Rattle.command.proofs.frames.ask_startup.Goals as goal
 
 pub returns-then-words-ne6 : goal.returns-then-words-ne6

@@ -1,7 +1,6 @@
 -- `ask_unframe` meets its contract: the words are counted, and the flag is read, as the definition has it.
 use Rattle.command.specs.Frames.{switch_of, unframe_asked}
 use Rattle.command.proofs.Read.{counted, other_count, read_as}
-use borrow.Author.Rules.{rules}
 use Rattle.command.proofs.frames.ask_unframe.Goals as goal
 
 pub returns-then-words-ne3 : goal.returns-then-words-ne3

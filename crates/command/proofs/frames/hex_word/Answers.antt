@@ -1,5 +1,4 @@
 -- `hex_word` meets its contract: which word it is goes by the command.
-use borrow.Author.Rules.{rules}
 use Rattle.command.proofs.frames.hex_word.Goals as goal
 
 pub returns-in-Fpdu : goal.returns-in-Fpdu

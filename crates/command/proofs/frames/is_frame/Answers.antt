@@ -1,7 +1,6 @@
 -- `is_frame` meets its contract: each answer goes by the comparisons, which are those of the definition.
 use mathlib.Core.Path.{sym, ◌∙◌}
 use Rattle.command.specs.Frames.{is_frame}
-use borrow.Author.Rules.{rules}
 use Rattle.command.proofs.frames.is_frame.Goals as goal
 
 pub returns-then-same : goal.returns-then-same

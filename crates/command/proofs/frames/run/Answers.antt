@@ -7,7 +7,6 @@ use lib.Seq.{length-take-le}
 use Rattle.command.specs.Args.{words_at}
 use Rattle.command.specs.declared.frames.FrameAsked.{FrameAsked}
 use Rattle.command.proofs.Asked.{size-within}
-use borrow.Author.Rules.{rules}
 use Rattle.command.proofs.frames.run.Goals as goal
 
 pub slice_bounds-answer_frame-end : goal.slice_bounds-answer_frame-end

@@ -3,7 +3,6 @@
 use Rattle.crc_bits.specs.Crc.{crc_bit, xor32}
 use Rattle.crc_halves.specs.Tables.{after}
 use Rattle.crc32c.proofs.Tables.{are-tables}
-use borrow.Author.Rules.{rules}
 use Rattle.crc32c.proofs.long.carry.Goals as goal
 
 pub over_lanes-requires : goal.over_lanes-requires

@@ -1,17 +1,10 @@
 -- `long::over_lanes` meets its contract. The invariant: the three values, joined by the bytes from here on, give what was to be given from the start.
 -- Assumes nothing.
-use mathlib.Core.Path.{◌≡◌, sym, ap, ap₂, ◌∙◌}
-use Prim.Native.Nat.{ℕ, ◌+◌, ◌-◌, ◌^◌, ◌≤◌, ◌<◌}
-use native.Mathlib.Omega.{arith}
-use lib.Dec.{lit<}
-use lib.Bits.{bit_xor}
-use lib.ListN.{length, take, drop, length-drop}
-use lib.Seq.{take_all}
-use borrow.Author.Rules.{rules}
+use mathlib.Core.Path.{◌≡◌}
+use Prim.Native.Nat.{◌+◌, ◌-◌, ◌^◌, ◌≤◌, ◌<◌}
+use lib.ListN.{length}
 use Rattle.crc_bits.specs.Crc.{crc_run}
-use Rattle.crc_halves.specs.Tables.{after}
-use Rattle.crc32c.specs.Tables.{eight}
-use Rattle.crc32c.proofs.Lanes.{joined, lanes_start, lanes_turn}
+use Rattle.crc32c.proofs.Lanes.{joined}
 use Rattle.crc32c.proofs.long.over_lanes.Given as goal
 
 abbrev pub invariant-loop-i : goal.invariant-loop-i

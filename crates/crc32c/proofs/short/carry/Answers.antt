@@ -6,7 +6,6 @@ use native.Mathlib.Omega.{arith}
 use lib.ListN.{length, drop, length-drop}
 use lib.Seq.{take_all}
 use Rattle.crc_bits.specs.Crc.{crc_run}
-use borrow.Author.Rules.{rules}
 use Rattle.crc32c.proofs.short.carry.Goals as goal
 
 pub returns : goal.returns

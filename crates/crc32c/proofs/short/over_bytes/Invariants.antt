@@ -1,14 +1,9 @@
 -- `short::over_bytes` meets its contract. The invariant: carrying on over what is left from here gives what was to be given from the start.
 -- Assumes nothing.
-use mathlib.Core.Path.{◌≡◌, refl, sym, ap, ◌∙◌}
-use mathlib.Core.List.{List}
-use Prim.Native.Nat.{ℕ, suc, ◌+◌, ◌-◌, ◌≤◌, zero-le}
-use native.Mathlib.Numerals.{add-one}
-use native.Mathlib.Omega.{arith}
-use lib.ListN.{length, get_or, drop, drop_of_length-le}
-use lib.Seq.{drop-cons}
-use borrow.Author.Rules.{rules}
-use Rattle.crc_bits.specs.Crc.{crc_run, crc_byte}
+use mathlib.Core.Path.{◌≡◌}
+use Prim.Native.Nat.{◌-◌, ◌≤◌}
+use lib.ListN.{length, drop}
+use Rattle.crc_bits.specs.Crc.{crc_run}
 use Rattle.crc32c.proofs.short.over_bytes.Given as goal
 
 abbrev pub invariant-loop-i : goal.invariant-loop-i

@@ -1,11 +1,9 @@
 -- `short::over_eights` meets its contract. The invariant: carrying on over what is left from here gives what was to be given from the start.
 -- Assumes nothing.
-use mathlib.Core.Path.{◌≡◌, refl, sym, ap, ◌∙◌}
-use Prim.Native.Nat.{ℕ, ◌+◌, ◌-◌, ◌*◌, ◌/◌, ◌%◌, ◌≤◌, zero-le}
-use native.Mathlib.Omega.{arith}
+use mathlib.Core.Path.{◌≡◌}
+use Prim.Native.Nat.{◌-◌, ◌%◌, ◌≤◌}
 use lib.ListN.{length, drop}
 use Rattle.crc_bits.specs.Crc.{crc_run}
-use Rattle.crc32c.proofs.Words.{eight_off}
 use Rattle.crc32c.proofs.short.over_eights.Given as goal
 
 abbrev pub invariant-loop-i : goal.invariant-loop-i

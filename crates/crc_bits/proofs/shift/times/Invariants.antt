@@ -1,15 +1,11 @@
 -- `crc32c::shift::times` meets its contract. The invariant: the sum, carried on over the bits that are left, and the product
 -- of what is left of p are the product.
 -- Assumes nothing.
-use mathlib.Core.Path.{◌≡◌, sym, ap, ◌∙◌}
-use Prim.Native.Nat.{ℕ, zero, suc, ◌-◌, ◌*◌, ◌/◌, ◌%◌, ◌^◌, ◌<◌, ◌≤◌}
-use native.Mathlib.Omega.{arith}
-use lib.Dec.{lit<}
-use lib.Bits.{bit_xor, xor_zero_l, xor_zero_r}
-use borrow.Author.Rules.{rules}
-use Rattle.crc_bits.specs.Crc.{crc_bit, crc_bits_of}
+use mathlib.Core.Path.{◌≡◌}
+use Prim.Native.Nat.{◌^◌, ◌<◌}
+use lib.Bits.{bit_xor}
+use Rattle.crc_bits.specs.Crc.{crc_bits_of}
 use Rattle.crc_bits.specs.Shift.{times_bits, times}
-use Rattle.crc_bits.proofs.Shifts.{bits_zero, times_bits-none, times_bits_turn}
 use Rattle.crc_bits.proofs.shift.times.Given as goal
 
 abbrev pub invariant-loop-k : goal.invariant-loop-k

@@ -1,10 +1,7 @@
 -- `crc32c::shift::zero_byte` meets its contract. The invariant: the bits that are left give from here what was to be given.
 -- Assumes nothing.
-use mathlib.Core.Path.{◌≡◌, refl, sym, ap, ◌∙◌}
-use Prim.Native.Nat.{ℕ, zero, suc, ◌-◌, ◌<◌, ◌≤◌}
-use native.Mathlib.Omega.{arith}
-use borrow.Author.Rules.{rules}
-use Rattle.crc_bits.specs.Crc.{crc_bit, crc_bits_of}
+use mathlib.Core.Path.{◌≡◌}
+use Rattle.crc_bits.specs.Crc.{crc_bits_of}
 use Rattle.crc_bits.proofs.shift.zero_byte.Given as goal
 
 abbrev pub invariant-loop-k : goal.invariant-loop-k

@@ -1,5 +1,5 @@
 -- `read_header` meets its contract: the tests on the length and on T pick the case.
-use Rattle.std.proofs.Common.{sym, ◌∙◌, rules, le-ltb, lt-ltb}
+use Rattle.std.proofs.Common.{sym, ◌∙◌, le-ltb, lt-ltb}
 use Rattle.ddp.specs.Header.{header_read}
 use Rattle.ddp.proofs.header.read_header.Goals as goal
 

@@ -1,6 +1,6 @@
 -- `read_tagged` meets its contract: the test on the version picks the case, and each field is what its reader ensures.
 use Rattle.ddp.specs.Header.{tagged_read, tagged_fields}
-use Rattle.std.proofs.Common.{rules, eq-eqb, ne_eqb}
+use Rattle.std.proofs.Common.{eq-eqb, ne_eqb}
 use Rattle.ddp.proofs.header.read_tagged.Goals as goal
 
 pub returns-then-b-eq1 : goal.returns-then-b-eq1

@@ -1,6 +1,6 @@
 -- `read_untagged` meets its contract: the tests pick the case, and each field is what its reader ensures.
 use Rattle.ddp.specs.Header.{untagged_read, untagged_fields}
-use Rattle.std.proofs.Common.{rules, le-ltb, lt-ltb, eq-eqb, ne_eqb}
+use Rattle.std.proofs.Common.{le-ltb, lt-ltb, eq-eqb, ne_eqb}
 use Rattle.ddp.proofs.header.read_untagged.Goals as goal
 
 pub returns-then-ulpdu-lt18 : goal.returns-then-ulpdu-lt18

@@ -1,5 +1,5 @@
 -- `write_start` meets its contract: two stores and the STag written after them are one `put`.
-use Rattle.std.proofs.Common.{ℕ, List, [], ◌∷◌, ◌++◌, ap, ◌∙◌, arith, length-set, rules}
+use Rattle.std.proofs.Common.{ℕ, List, [], ◌∷◌, ap, ◌∙◌, arith, length-set}
 use Rattle.wire.specs.Wire.{put, be32}
 use Rattle.wire.proofs.Laws.{set_2, put-put}
 use Rattle.ddp.specs.Header.{start_bytes}

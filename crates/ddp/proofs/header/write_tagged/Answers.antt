@@ -1,5 +1,5 @@
 -- `write_tagged` meets its contract: the start and the tagged offset written after it are one `put`.
-use Rattle.std.proofs.Common.{ℕ, ◌≤◌, List, length, ap, ◌∙◌, arith, rules, le-ltb, lt-ltb}
+use Rattle.std.proofs.Common.{ℕ, ◌≤◌, List, length, ap, ◌∙◌, arith, le-ltb, lt-ltb}
 use Rattle.wire.specs.Wire.{put, be64}
 use Rattle.ddp.specs.Header.{tagged_bytes, header_written, written_out}
 use Rattle.ddp.proofs.Round.{tagged_length, tagged_put}

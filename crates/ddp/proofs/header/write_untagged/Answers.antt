@@ -1,5 +1,5 @@
 -- `write_untagged` meets its contract: the start and the three numbers written after it are one `put`.
-use Rattle.std.proofs.Common.{ℕ, ◌≤◌, List, length, ap, ◌∙◌, arith, rules, le-ltb, lt-ltb}
+use Rattle.std.proofs.Common.{ℕ, ◌≤◌, List, length, ap, ◌∙◌, arith, le-ltb, lt-ltb}
 use Rattle.wire.specs.Wire.{put, be32}
 use Rattle.ddp.specs.Header.{untagged_bytes, header_written, written_out}
 use Rattle.ddp.proofs.Round.{untagged_length, untagged_put}

@@ -1,6 +1,6 @@
 -- `place` meets its contract: the two tests are that of `fits`, with the place on the other side, and `copy` does the
 -- rest.
-use Rattle.std.proofs.Common.{◌+◌, ◌<◌, ◌≤◌, length, arith, rules, le-leb}
+use Rattle.std.proofs.Common.{◌+◌, ◌<◌, ◌≤◌, length, arith, le-leb}
 use Rattle.ddp.specs.Place.{fits, placed}
 use borrow.Author.Tests.{lt-leb}
 use Rattle.ddp.proofs.place.place.Goals as goal

@@ -1,5 +1,5 @@
 -- `read_segment` meets its contract, by that of the framing layer: each arm has what `fpdu_read` gives.
-use Rattle.std.proofs.Common.{sym, ap, ◌∙◌, rules}
+use Rattle.std.proofs.Common.{sym, ap, ◌∙◌}
 use Rattle.ddp.specs.Segment.{segment_from, segment_read}
 use Rattle.ddp.specs.declared.segment.SegmentRead.TheVariants.{Refused}
 use Rattle.mpa.proofs.Taken.{ulpdu_inside}

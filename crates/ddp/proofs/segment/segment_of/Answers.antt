@@ -1,5 +1,5 @@
 -- `segment_of` meets its contract: each arm has what `header_read` gives of the ULPDU, which is then as long as its header.
-use Rattle.std.proofs.Common.{◌≡◌, ℕ, ◌+◌, ◌-◌, List, take, drop, sym, ap, ◌∙◌, arith, rules}
+use Rattle.std.proofs.Common.{◌≡◌, ℕ, ◌+◌, ◌-◌, List, take, drop, sym, ap, ◌∙◌, arith}
 use native.Mathlib.Nat.{add-sub_cancel_left}
 use Rattle.wire.specs.Wire.{part}
 use Rattle.wire.proofs.Laws.{length_part}

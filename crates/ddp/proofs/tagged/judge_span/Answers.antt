@@ -1,5 +1,5 @@
 -- `judge_span` meets its contract: each arm has the span that `spanned` gives.
-use Rattle.std.proofs.Common.{sym, ap, ◌∙◌, rules}
+use Rattle.std.proofs.Common.{sym, ap, ◌∙◌}
 use Rattle.ddp.specs.Tagged.{tagged_in}
 use Rattle.ddp.proofs.tagged.judge_span.Goals as goal
 

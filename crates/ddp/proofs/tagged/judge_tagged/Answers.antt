@@ -1,5 +1,5 @@
 -- `judge_tagged` meets its contract: each arm has what `found_in` gives of the window.
-use Rattle.std.proofs.Common.{sym, ap, ◌∙◌, rules, eq-eqb, ne_eqb}
+use Rattle.std.proofs.Common.{sym, ap, ◌∙◌, eq-eqb, ne_eqb}
 use Rattle.ddp.specs.Tagged.{tagged_of, tagged_at}
 use Rattle.memory.specs.declared.window.Found.{Found}
 use Rattle.ddp.proofs.tagged.judge_tagged.Goals as goal

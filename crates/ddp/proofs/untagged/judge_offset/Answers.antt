@@ -1,6 +1,6 @@
 -- `judge_offset` meets its contract: the tests on what is left of the limit are that of `untagged_in`, with the offset on
 -- the other side.
-use Rattle.std.proofs.Common.{◌+◌, ◌<◌, ◌≤◌, arith, rules, eq-eqb, ne_eqb, le-leb}
+use Rattle.std.proofs.Common.{◌+◌, ◌<◌, ◌≤◌, arith, eq-eqb, ne_eqb, le-leb}
 use Rattle.ddp.specs.Untagged.{untagged_in}
 use borrow.Author.Tests.{lt-leb}
 use Rattle.ddp.proofs.untagged.judge_offset.Goals as goal

@@ -1,6 +1,6 @@
 -- `judge_untagged` meets its contract: at each return the tests that led there pick the case of `untagged_of`.
 use Rattle.ddp.specs.Untagged.{untagged_of}
-use Rattle.std.proofs.Common.{rules, le-ltb, lt-ltb}
+use Rattle.std.proofs.Common.{le-ltb, lt-ltb}
 use Rattle.ddp.proofs.untagged.judge_untagged.Goals as goal
 
 pub returns-then-qn-gt2 : goal.returns-then-qn-gt2

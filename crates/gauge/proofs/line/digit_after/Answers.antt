@@ -1,6 +1,5 @@
 -- `digit_after` meets its contract: the byte is no digit, or the number with it fits, or not.
 use Rattle.gauge.proofs.Digits.{no_digit-under, no_digit-over, digit-fits, digit-over}
-use borrow.Author.Rules.{rules}
 use Rattle.gauge.proofs.line.digit_after.Goals as goal
 
 pub returns-then-b-lt48 : goal.returns-then-b-lt48

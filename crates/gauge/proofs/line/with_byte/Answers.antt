@@ -1,5 +1,4 @@
 -- `with_byte` meets its contract, by what the line was.
-use borrow.Author.Rules.{rules}
 use Rattle.gauge.proofs.line.with_byte.Goals as goal
 
 pub returns-in-Empty : goal.returns-in-Empty

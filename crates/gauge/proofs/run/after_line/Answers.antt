@@ -1,5 +1,4 @@
 -- `after_line` meets its contract: a sample is a tick, and nothing else is.
-use borrow.Author.Rules.{rules}
 use Rattle.gauge.proofs.run.after_line.Goals as goal
 
 pub returns-in-Value : goal.returns-in-Value

@@ -1,6 +1,5 @@
 -- `put_answer` meets its contract, by what the line is.
 use Rattle.gauge.proofs.Steps.{answer_read}
-use borrow.Author.Rules.{rules}
 use Rattle.gauge.proofs.run.put_answer.Goals as goal
 
 pub returns-in-Value : goal.returns-in-Value

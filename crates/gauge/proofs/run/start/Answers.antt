@@ -1,5 +1,4 @@
 -- `start` meets its contract.
-use borrow.Author.Rules.{rules}
 use Rattle.gauge.proofs.run.start.Goals as goal
 
 pub returns : goal.returns

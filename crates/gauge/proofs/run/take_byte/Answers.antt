@@ -1,6 +1,5 @@
 -- `take_byte` meets its contract: a newline ends the line, and any other byte goes into it.
 use Rattle.gauge.proofs.Steps.{stepped_end, stepped_on}
-use borrow.Author.Rules.{rules}
 use Rattle.gauge.proofs.run.take_byte.Goals as goal
 
 pub returns-then-b-eq10 : goal.returns-then-b-eq10

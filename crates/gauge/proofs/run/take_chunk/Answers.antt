@@ -1,8 +1,5 @@
 -- `take_chunk` meets its contract: after each byte the state and the answers are those of the bytes so far. The measure is what is left of the chunk.
-use Prim.Native.Nat.{◌-◌}
-use native.Mathlib.Omega.{arith}
-use lib.ListN.{length}
-use Rattle.gauge.proofs.Steps.{Taken, taken_none, taken-room, taken_more, taken-all}
+use Rattle.gauge.proofs.Steps.{taken_none, taken-room, taken_more, taken-all}
 use Rattle.gauge.proofs.run.take_chunk.Goals as goal
 
 pub loop-i-init : goal.loop-i-init

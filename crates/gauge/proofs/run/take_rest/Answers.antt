@@ -1,6 +1,5 @@
 -- `take_rest` meets its contract, by what the line is.
 use Rattle.gauge.proofs.Steps.{placed-none, rest_value, rest-bad}
-use borrow.Author.Rules.{rules}
 use Rattle.gauge.proofs.run.take_rest.Goals as goal
 
 pub returns-in-Empty : goal.returns-in-Empty

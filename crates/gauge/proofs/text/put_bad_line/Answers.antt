@@ -1,7 +1,6 @@
 -- `put_bad_line` meets its contract.
 use native.Mathlib.Omega.{arith}
 use Rattle.gauge.proofs.Places.{placed_one}
-use borrow.Author.Rules.{rules}
 use Rattle.gauge.proofs.text.put_bad_line.Goals as goal
 
 pub returns : goal.returns

@@ -1,7 +1,6 @@
 -- `put_reading` meets its contract: the name is put, and each float behind it.
 use Rattle.gauge.proofs.Places.{quiet-placed, steady-room, falling-room, level-room, steady-placed, falling-placed}
 use native.Mathlib.Omega.{arith}
-use borrow.Author.Rules.{rules}
 use Rattle.gauge.proofs.text.put_reading.Goals as goal
 
 pub then_level-requires : goal.then_level-requires

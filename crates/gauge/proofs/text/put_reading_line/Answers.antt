@@ -1,6 +1,5 @@
 -- `put_reading_line` meets its contract: a newline behind the reading.
 use Rattle.gauge.proofs.Places.{line_placed}
-use borrow.Author.Rules.{rules}
 use Rattle.gauge.proofs.text.put_reading_line.Goals as goal
 
 pub returns : goal.returns

@@ -1,6 +1,5 @@
 -- `then_level` meets its contract: a space, and the digits of the eight bytes of the bits.
 use Rattle.gauge.proofs.Places.{level-placed}
-use borrow.Author.Rules.{rules}
 use Rattle.gauge.proofs.text.then_level.Goals as goal
 
 pub returns : goal.returns

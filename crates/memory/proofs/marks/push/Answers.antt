@@ -7,7 +7,6 @@ use lib.Dec.{lit<}
 use lib.Bits.{bit_or, or_shifted}
 use mir.Val.{bool_byte}
 use Rattle.memory.specs.Marks.{pushed}
-use borrow.Author.Rules.{rules}
 use Rattle.memory.proofs.marks.push.Goals as goal
 
 moved : (m : ℕ) → m * 2 % 65536 ≡ m % 32768 * 2

@@ -1,5 +1,4 @@
 -- `fits_in` meets its contract: the tests on the two ends pick the case.
-use borrow.Author.Rules.{rules}
 use borrow.Author.Tests.{le-leb, lt-leb}
 use Rattle.memory.proofs.part.fits_in.Goals as goal
 

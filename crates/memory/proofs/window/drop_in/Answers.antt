@@ -1,6 +1,5 @@
 -- `drop_in` meets its contract: whether the window is live picks the case of `dropped_in`.
 use Rattle.memory.specs.Window.{dropped_in}
-use borrow.Author.Rules.{rules}
 use Rattle.memory.proofs.window.drop_in.Goals as goal
 
 pub returns-then-w : goal.returns-then-w

@@ -2,7 +2,6 @@
 -- `drop_in` gives.
 use mathlib.Core.Path.{ap, ◌∙◌}
 use Rattle.memory.specs.Window.{entering, dropped}
-use borrow.Author.Rules.{rules}
 use borrow.Author.Tests.{le-leb, lt-leb}
 use Rattle.memory.proofs.window.drop_window.Goals as goal
 

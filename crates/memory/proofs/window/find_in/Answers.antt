@@ -4,7 +4,6 @@ use mathlib.Core.Path.{sym}
 use native.Mathlib.Omega.{arith}
 use borrow.Author.Tests.{le-leb, lt-leb}
 use Rattle.memory.specs.Window.{found_in}
-use borrow.Author.Rules.{rules}
 use Rattle.memory.proofs.window.find_in.Goals as goal
 
 pub returns-then-live : goal.returns-then-live

@@ -1,11 +1,8 @@
 -- `gather` meets its contract. The invariant: the marks so far are those of the windows from i on.
-use Prim.Native.Nat.{ℕ, ◌+◌, ◌-◌, ◌≤◌}
-use mathlib.Core.Path.{◌≡◌, sym, ap, ◌∙◌}
-use native.Mathlib.Omega.{arith}
-use lib.ListN.{length, drop}
+use Prim.Native.Nat.{◌≤◌}
+use mathlib.Core.Path.{◌≡◌}
+use lib.ListN.{drop}
 use Rattle.memory.specs.Marks.{live_marks}
-use Rattle.memory.proofs.LiveMarks.{marks_step, marks_none}
-use borrow.Author.Rules.{rules}
 use Rattle.memory.proofs.window.gather.Given as goal
 
 abbrev pub invariant-loop-i : goal.invariant-loop-i

@@ -1,6 +1,5 @@
 -- `is_named` meets its contract: a dead window is not named, and of a live one the key decides.
 use Rattle.memory.specs.Window.{named}
-use borrow.Author.Rules.{rules}
 use Rattle.memory.proofs.window.is_named.Goals as goal
 
 pub returns-then-w : goal.returns-then-w

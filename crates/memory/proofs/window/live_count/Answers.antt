@@ -2,7 +2,6 @@
 use mathlib.Core.Path.{ap, ◌∙◌}
 use lib.Count.{ones}
 use Rattle.memory.proofs.LiveMarks.{ones-live}
-use borrow.Author.Rules.{rules}
 use Rattle.memory.proofs.window.live_count.Goals as goal
 
 pub returns : goal.returns

@@ -2,7 +2,6 @@
 -- `register_in` gives.
 use mathlib.Core.Path.{ap, ◌∙◌}
 use Rattle.memory.specs.Window.{entering, registered}
-use borrow.Author.Rules.{rules}
 use borrow.Author.Tests.{le-leb, lt-leb}
 use Rattle.memory.proofs.window.register.Goals as goal
 

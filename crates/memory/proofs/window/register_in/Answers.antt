@@ -3,7 +3,6 @@
 use mathlib.Core.Path.{sym, ◌∙◌}
 use Rattle.memory.specs.Window.{registered_in}
 use Rattle.memory.proofs.Laws.{key_bound, rights_bound, window_bound}
-use borrow.Author.Rules.{rules}
 use native.Mathlib.Omega.{arith}
 use borrow.Author.Tests.{eq-eqb, ne_eqb}
 use Rattle.memory.proofs.window.register_in.Goals as goal

@@ -3,7 +3,6 @@ use Prim.Native.Nat.{◌+◌, ◌-◌}
 use mathlib.Core.Path.{sym, ◌∙◌}
 use Rattle.memory.specs.Window.{window_fits}
 use Rattle.memory.proofs.Laws.{leb-same}
-use borrow.Author.Rules.{rules}
 use native.Mathlib.Omega.{arith}
 use Rattle.memory.proofs.window.window_fits.Goals as goal
 

@@ -1,8 +1,7 @@
 -- `wraps_around` meets its contract: above 2^64 is the same test with `to` on the other side, where there are bytes.
-use Prim.Native.Nat.{◌+◌, ◌-◌, ◌≤◌, ◌<◌}
+use Prim.Native.Nat.{◌+◌, ◌-◌, ◌≤◌}
 use Rattle.memory.specs.Window.{wraps}
 use Rattle.memory.proofs.Laws.{ltb-same}
-use borrow.Author.Rules.{rules}
 use native.Mathlib.Omega.{arith}
 use borrow.Author.Tests.{le-ltb}
 use Rattle.memory.proofs.window.wraps_around.Goals as goal

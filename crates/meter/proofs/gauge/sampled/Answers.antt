@@ -1,5 +1,4 @@
 -- `sampled` meets its contract: a first sample, and a later one by whether it lifts the peak.
-use borrow.Author.Rules.{rules}
 use borrow.Author.Tests.{not-true, not-false}
 use Rattle.meter.proofs.Cases.{eight, first, rises, stays}
 use Rattle.meter.proofs.gauge.sampled.Goals as goal

@@ -2,7 +2,6 @@
 use Prim.Native.Nat.{◌+◌, ◌%◌, ◌≤◌, ◌<◌}
 use native.Mathlib.Omega.{arith}
 use borrow.Author.Tests.{le-leb, lt-leb}
-use borrow.Author.Rules.{rules}
 use Rattle.meter.specs.Words.{counted_word}
 use Rattle.meter.proofs.words.counted_word.Goals as goal
 

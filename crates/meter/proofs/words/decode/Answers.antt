@@ -1,6 +1,5 @@
 -- `decode` meets its contract, a word at a time.
 use Rattle.meter.specs.Words.{meter_at}
-use borrow.Author.Rules.{rules}
 use Rattle.meter.proofs.words.decode.Goals as goal
 
 pub returns : goal.returns

@@ -1,6 +1,5 @@
 -- `encode` meets its contract: the first word by the mark, the others by what `level_bits` answers.
 use Rattle.meter.specs.Words.{meter_words}
-use borrow.Author.Rules.{rules}
 use Rattle.meter.proofs.words.encode.Goals as goal
 
 pub returns-then-m : goal.returns-then-m

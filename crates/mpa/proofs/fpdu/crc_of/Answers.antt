@@ -6,7 +6,6 @@ use lib.ListN.{length, take, drop}
 use lib.Seq.{length-take-le}
 use Rattle.crc32c.specs.Crc.{crc_run, crc_of, all_ones}
 use Rattle.mpa.proofs.Apart.{three_pieces}
-use borrow.Author.Rules.{rules}
 use Rattle.mpa.proofs.fpdu.crc_of.Goals as goal
 
 pub slice_bounds-update-end : goal.slice_bounds-update-end

@@ -5,7 +5,6 @@ use native.Mathlib.Omega.{arith}
 use lib.Seq.{length-take-le}
 use lib.Dec.{eqb}
 use lib.ListN.{take}
-use borrow.Author.Rules.{rules}
 use Rattle.wire.specs.Wire.{le32_at}
 use Rattle.crc32c.specs.Crc.{crc_of}
 use Rattle.mpa.proofs.fpdu.crc_right.Goals as goal

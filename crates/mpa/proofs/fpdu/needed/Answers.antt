@@ -1,7 +1,6 @@
 -- `needed` meets its contract: the test of the limit says which it is, and its bounds are those of proofs/Length.antt under the limit.
 use Prim.Native.Nat.{ℕ, ◌≤◌}
 use mathlib.Core.Path.{◌≡◌, sym, subst}
-use borrow.Author.Rules.{rules}
 use borrow.Author.Tests.{lt-ltb, le-ltb}
 use Rattle.mpa.specs.Fpdu.{max_ulpdu, total_of, needed_for}
 use Rattle.mpa.proofs.Length.{needed-low, needed_limit}

@@ -2,7 +2,6 @@
 use Prim.Native.Nat.{ℕ}
 use mathlib.Core.Path.{ap, ◌∙◌}
 use borrow.Author.Tests.{lt-ltb, le-ltb}
-use borrow.Author.Rules.{rules}
 use Rattle.mpa.specs.Fpdu.{fpdu_read_of, fpdu_read}
 use Rattle.mpa.proofs.fpdu.read_fpdu.Goals as goal
 

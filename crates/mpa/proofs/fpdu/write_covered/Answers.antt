@@ -3,7 +3,6 @@ use Prim.Native.Nat.{ℕ, ◌+◌}
 use mathlib.Core.List.{List}
 use mathlib.Core.Path.{ap, ◌∙◌}
 use lib.ListN.{length, replicate}
-use borrow.Author.Rules.{rules}
 use Rattle.wire.specs.Wire.{put}
 use Rattle.mpa.proofs.Frames.{covered-put}
 use Rattle.mpa.specs.Fpdu.{pad_of}

@@ -3,7 +3,6 @@ use Prim.Native.Nat.{◌<◌, ◌≤◌}
 use native.Mathlib.Omega.{arith}
 use lib.ListN.{length}
 use borrow.Author.Tests.{lt-ltb, le-ltb}
-use borrow.Author.Rules.{rules}
 use Rattle.mpa.proofs.Frames.{refused, written}
 use Rattle.mpa.specs.Fpdu.{total_of, fpdu_of, fpdu_written, fpdu_out}
 use Rattle.mpa.proofs.fpdu.write_fpdu.Goals as goal

@@ -5,7 +5,6 @@ use mathlib.Core.Path.{sym, ap, ◌∙◌, subst}
 use native.Mathlib.Omega.{arith}
 use lib.Seq.{length-take-le}
 use lib.ListN.{length, take}
-use borrow.Author.Rules.{rules}
 use Rattle.wire.specs.Wire.{put, le32}
 use Rattle.crc32c.specs.Crc.{crc_of}
 use Rattle.mpa.proofs.Frames.{fpdu_put}

@@ -1,5 +1,4 @@
 -- `declines` meets its contract: R is looked at in a reply alone.
-use borrow.Author.Rules.{rules}
 use Rattle.mpa.proofs.startup.declines.Goals as goal
 
 pub returns-then-reply : goal.returns-then-reply

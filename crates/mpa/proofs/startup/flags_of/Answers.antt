@@ -1,5 +1,4 @@
 -- `flags_of` meets its contract, case by case.
-use borrow.Author.Rules.{rules}
 use Rattle.mpa.proofs.startup.flags_of.Goals as goal
 
 pub returns-then-declined : goal.returns-then-declined

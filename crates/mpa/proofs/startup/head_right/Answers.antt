@@ -5,7 +5,6 @@ use native.Mathlib.Omega.{arith}
 use lib.Dec.{leb}
 use lib.Seq.{length-take-le}
 use borrow.Author.Tests.{eq-eqb, ne_eqb}
-use borrow.Author.Rules.{rules}
 use Rattle.mpa.specs.Startup.{max_private}
 use Rattle.mpa.proofs.Startups.{key_test}
 use Rattle.mpa.proofs.startup.head_right.Goals as goal

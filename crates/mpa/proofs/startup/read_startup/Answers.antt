@@ -1,7 +1,6 @@
 -- `read_startup` meets its contract: at each return the tests that led there say which case of `startup_read` holds.
 use mathlib.Core.Path.{sym, ◌∙◌}
 use borrow.Author.Tests.{lt-ltb, le-ltb, not-true, not-false}
-use borrow.Author.Rules.{rules}
 use Rattle.mpa.specs.Startup.{startup_read}
 use Rattle.mpa.proofs.startup.read_startup.Goals as goal
 

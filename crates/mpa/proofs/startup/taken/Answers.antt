@@ -3,7 +3,6 @@ use Prim.Native.Nat.{◌+◌, ◌<◌, ◌≤◌}
 use native.Mathlib.Omega.{arith}
 use lib.ListN.{length}
 use borrow.Author.Tests.{lt-ltb, le-ltb}
-use borrow.Author.Rules.{rules}
 use Rattle.wire.specs.Wire.{be16_at}
 use Rattle.mpa.specs.Startup.{startup_taken}
 use Rattle.mpa.proofs.startup.taken.Goals as goal

@@ -1,7 +1,6 @@
 -- `write_startup` meets its contract: at each return the tests that led there say which case of `startup_written` holds.
 use mathlib.Core.Path.{sym, ◌∙◌}
 use borrow.Author.Tests.{lt-ltb, le-ltb}
-use borrow.Author.Rules.{rules}
 use Rattle.mpa.proofs.Frames.{refused, written}
 use Rattle.mpa.specs.Startup.{startup_of, startup_written, startup_out}
 use Rattle.mpa.proofs.startup.write_startup.Goals as goal

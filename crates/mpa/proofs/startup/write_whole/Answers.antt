@@ -4,7 +4,6 @@ use mathlib.Core.List.{List}
 use mathlib.Core.Path.{◌≡◌, ap, ap₂, ◌∙◌}
 use native.Mathlib.Omega.{arith}
 use lib.ListN.{length, set, length-set}
-use borrow.Author.Rules.{rules}
 use Rattle.wire.specs.Wire.{put, be16}
 use Rattle.mpa.proofs.Frames.{startup_put}
 use Rattle.mpa.proofs.startup.write_whole.Goals as goal

@@ -1,6 +1,5 @@
 -- `fits_queue` meets its contract: the tests on the queue pick the case of `fits_queue`.
 use borrow.Author.Tests.{eq-eqb, ne_eqb}
-use borrow.Author.Rules.{rules}
 use Rattle.rdmap.proofs.message.fits_queue.Goals as goal
 
 pub returns-then-qn-eq0 : goal.returns-then-qn-eq0

@@ -1,6 +1,5 @@
 -- `judge_invalidate` meets its contract: each arm is a case of `invalidated`.
 use mathlib.Core.Path.{sym, ap}
-use borrow.Author.Rules.{rules}
 use Rattle.rdmap.specs.Message.{invalidated}
 use Rattle.rdmap.proofs.message.judge_invalidate.Goals as goal
 

@@ -1,7 +1,6 @@
 -- `judge_message` meets its contract: the queue picks the case of `message_verdict`.
 use borrow.Author.Tests.{eq-eqb, ne_eqb}
 use Rattle.rdmap.specs.Message.{message_verdict}
-use borrow.Author.Rules.{rules}
 use Rattle.rdmap.proofs.message.judge_message.Goals as goal
 
 pub returns-then-h-eq0 : goal.returns-then-h-eq0

@@ -5,8 +5,7 @@ use Rattle.rdmap.specs.declared.read.ReadRequest.{ReadRequest}
 use Rattle.rdmap.specs.Message.{read_verdict}
 use borrow.Author.Tests.{eq-eqb, ne_eqb}
 use lib.Dec.{eqb}
-use mathlib.Core.Path.{◌≡◌, sym, ap, ◌∙◌}
-use borrow.Author.Rules.{rules}
+use mathlib.Core.Path.{sym, ap, ◌∙◌}
 use Rattle.rdmap.proofs.message.judge_read.Goals as goal
 
 pub returns-then-read-eq0 : goal.returns-then-read-eq0

@@ -1,7 +1,6 @@
 -- `judge_send` meets its contract: L and the opcode pick the case of `send_verdict`, and what the STag names is judged
 -- further.
 use mathlib.Core.Path.{sym, ap, ◌∙◌}
-use borrow.Author.Rules.{rules}
 use Rattle.rdmap.specs.Message.{send_verdict, invalidated, opcode_of}
 use Rattle.rdmap.proofs.message.judge_send.Goals as goal
 

@@ -1,7 +1,6 @@
 -- `judge_source` meets its contract: each arm is a case of `source_of`, and the span is what `span_of` ensures.
 use mathlib.Core.Path.{sym, ap, ◌∙◌}
 use Rattle.rdmap.specs.Message.{source_in, source_of}
-use borrow.Author.Rules.{rules}
 use Rattle.rdmap.proofs.message.judge_source.Goals as goal
 
 pub returns-in-Foreign : goal.returns-in-Foreign

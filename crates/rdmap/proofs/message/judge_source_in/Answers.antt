@@ -2,7 +2,6 @@
 -- `may_read`.
 use mathlib.Core.Path.{sym, ap}
 use borrow.Author.Tests.{le-leb, lt-leb}
-use borrow.Author.Rules.{rules}
 use Rattle.rdmap.specs.Message.{source_in}
 use Rattle.rdmap.proofs.message.judge_source_in.Goals as goal
 

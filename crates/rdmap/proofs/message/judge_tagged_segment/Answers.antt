@@ -1,6 +1,5 @@
 -- `judge_tagged_segment` meets its contract: what DDP judges is judged further.
 use mathlib.Core.Path.{ap, ◌∙◌}
-use borrow.Author.Rules.{rules}
 use Rattle.rdmap.specs.Message.{write_verdict}
 use Rattle.rdmap.proofs.message.judge_tagged_segment.Goals as goal
 

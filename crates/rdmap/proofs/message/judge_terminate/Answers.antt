@@ -1,6 +1,5 @@
 -- `judge_terminate` meets its contract: L and the length pick the case of `terminate_verdict`.
 use borrow.Author.Tests.{le-leb, lt-leb}
-use borrow.Author.Rules.{rules}
 use Rattle.rdmap.specs.Message.{terminate_verdict}
 use Rattle.rdmap.proofs.message.judge_terminate.Goals as goal
 

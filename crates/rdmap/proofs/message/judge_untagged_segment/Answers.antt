@@ -2,7 +2,6 @@
 -- `untagged_verdict`.
 use mathlib.Core.Path.{sym, ap, ◌∙◌}
 use Rattle.rdmap.specs.Message.{untagged_verdict}
-use borrow.Author.Rules.{rules}
 use Rattle.rdmap.proofs.message.judge_untagged_segment.Goals as goal
 
 pub returns-in-Refused : goal.returns-in-Refused

@@ -1,6 +1,5 @@
 -- `judge_write` meets its contract: each arm has what DDP judged, and the callees give the case of `write_verdict`.
 use mathlib.Core.Path.{sym, ap, ◌∙◌}
-use borrow.Author.Rules.{rules}
 use Rattle.rdmap.specs.Message.{write_verdict, after}
 use Rattle.rdmap.specs.declared.message.Control.{Control}
 use Rattle.rdmap.specs.declared.message.Verdict.TheVariants.{Nothing}

@@ -1,6 +1,5 @@
 -- `stag_named` meets its contract: the queue and the length pick the case of `stag_named`.
 use borrow.Author.Tests.{eq-eqb, ne_eqb}
-use borrow.Author.Rules.{rules}
 use Rattle.rdmap.proofs.message.stag_named.Goals as goal
 
 pub returns-then-payload-eq28 : goal.returns-then-payload-eq28

@@ -1,6 +1,5 @@
 -- `unless_refused` meets its contract: each arm is a case of `after`.
 use mathlib.Core.Path.{sym, ap}
-use borrow.Author.Rules.{rules}
 use Rattle.rdmap.specs.Message.{after}
 use Rattle.rdmap.specs.declared.message.Control.{Control}
 use Rattle.rdmap.proofs.message.unless_refused.Goals as goal

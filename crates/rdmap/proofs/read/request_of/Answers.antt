@@ -1,5 +1,4 @@
 -- `request_of` meets its contract: each field is what its reader ensures.
-use borrow.Author.Rules.{rules}
 use Rattle.rdmap.proofs.read.request_of.Goals as goal
 
 pub returns : goal.returns

@@ -1,14 +1,9 @@
 -- `all_hex` meets its contract. The loop keeps what `all` answers for what is left (`Digits`).
-use native.Mathlib.Omega.{arith}
-use borrow.Author.Rules.{rules}
-use mathlib.Core.Path.{◌≡◌, refl, sym, ◌∙◌}
-use mathlib.Core.Bool.{true, false}
+use mathlib.Core.Path.{◌≡◌}
 use Prim.Native.Nat.{◌-◌}
 use lib.ListN.{length, drop}
-use borrow.Author.Tests.{lt-ltb, le-ltb}
 use Rattle.script.specs.Number.{all}
 use Rattle.script.specs.Hex.{is_hex_digit}
-use Rattle.script.proofs.Digits.{all-next, all_end}
 use Rattle.script.proofs.hex.all_hex.Given as goal
 
 abbrev pub invariant-loop-i : goal.invariant-loop-i

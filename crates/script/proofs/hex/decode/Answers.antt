@@ -1,6 +1,5 @@
 -- `decode` meets its contract: where the length is told and there is room, the pairs are all written (`Decoding`).
 use native.Mathlib.Omega.{arith}
-use borrow.Author.Rules.{rules}
 use mathlib.Core.Path.{sym, ◌∙◌}
 use Rattle.script.proofs.Decoding.{told, decoded, decoded_small, decoded_bad, all-pairs}
 use Rattle.script.proofs.hex.decode.Goals as goal

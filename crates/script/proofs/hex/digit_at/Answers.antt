@@ -1,8 +1,5 @@
 -- `digit_at` meets its contract: an even place holds the high digit of its byte, an odd one the low digit (`Pairs`).
-use native.Mathlib.Omega.{arith}
-use borrow.Author.Rules.{rules}
 use mathlib.Core.Path.{sym, ◌∙◌}
-use Prim.Native.Nat.{◌/◌}
 use Rattle.script.proofs.Pairs.{high_at, low_at}
 use Rattle.script.proofs.hex.digit_at.Goals as goal
 

@@ -1,5 +1,4 @@
 -- `digit_of` meets its contract: each `return` rewrites with the test that led there.
-use borrow.Author.Rules.{rules}
 use borrow.Author.Tests.{lt-ltb, le-ltb}
 use Rattle.script.proofs.hex.digit_of.Goals as goal
 

@@ -1,6 +1,5 @@
 -- `digit_value` meets its contract: the tests that led to each `return` say which range the byte is in (`Digits`).
 use native.Mathlib.Omega.{arith}
-use borrow.Author.Rules.{rules}
 use mathlib.Core.Path.{sym}
 use Rattle.script.proofs.Digits.{value_digit, value_upper, value_lower, value_under, value_under-upper, value_under-lower, value_over}
 use Rattle.script.proofs.hex.digit_value.Goals as goal

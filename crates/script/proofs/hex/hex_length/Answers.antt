@@ -1,5 +1,4 @@
 -- `hex_length` meets its contract: each `return` rewrites with the tests that led there.
-use borrow.Author.Rules.{rules}
 use mathlib.Core.Path.{◌∙◌, sym}
 use Rattle.script.specs.Hex.{hex_length_of}
 use Rattle.script.proofs.hex.hex_length.Goals as goal

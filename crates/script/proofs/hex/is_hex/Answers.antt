@@ -1,5 +1,4 @@
 -- `is_hex` meets its contract: each `return` rewrites with the tests that led there.
-use borrow.Author.Rules.{rules}
 use borrow.Author.Tests.{eq-eqb, ne_eqb}
 use Rattle.script.specs.Hex.{is_hex}
 use Rattle.script.proofs.hex.is_hex.Goals as goal

@@ -1,6 +1,5 @@
 -- `pair_at` meets its contract: two values below 16 make a byte, and it is the one of `pairs` (`Pairs`).
 use native.Mathlib.Omega.{arith}
-use borrow.Author.Rules.{rules}
 use mathlib.Core.Path.{sym, ap₂, ◌∙◌}
 use Prim.Native.Nat.{ℕ, ◌+◌, ◌*◌, ◌<◌}
 use Rattle.script.proofs.Pairs.{pair_at}

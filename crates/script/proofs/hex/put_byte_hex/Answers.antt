@@ -1,5 +1,4 @@
 -- `put_byte_hex` meets its contract: the two digits are those of `upper_byte`.
-use borrow.Author.Rules.{rules}
 use mathlib.Core.Path.{ap₂}
 use mathlib.Core.List.{[], ◌∷◌}
 use Prim.Native.Nat.{ℕ}

@@ -1,13 +1,9 @@
 -- `put_digits` meets its contract, as `put_word` does: the bytes pasted in are those of `hex_digits`, two for each byte.
-use native.Mathlib.Omega.{arith}
-use borrow.Author.Rules.{rules}
-use mathlib.Core.Path.{◌≡◌, refl, sym}
+use mathlib.Core.Path.{◌≡◌}
 use Prim.Native.Nat.{◌-◌, ◌≤◌}
-use lib.ListN.{length, length-set}
-use lib.Seq.{paste, paste-zero}
+use lib.ListN.{length}
+use lib.Seq.{paste}
 use Rattle.script.specs.Hex.{hex_digits}
-use Rattle.script.proofs.Placed.{turn, put-not, put-done}
-use Rattle.script.proofs.Pairs.{length_digits}
 use Rattle.script.proofs.hex.put_digits.Given as goal
 
 abbrev pub invariant-loop-j : goal.invariant-loop-j

@@ -1,14 +1,9 @@
 -- `write_bytes` meets its contract. The loop keeps out as it was with the first j bytes of `pairs` pasted in at the front.
-use native.Mathlib.Omega.{arith}
-use borrow.Author.Rules.{rules}
-use mathlib.Core.Path.{◌≡◌, refl}
+use mathlib.Core.Path.{◌≡◌}
 use Prim.Native.Nat.{◌-◌, ◌≤◌}
-use native.Mathlib.Nat.{le_antisymm}
-use lib.ListN.{length, length-set}
+use lib.ListN.{length}
 use lib.Seq.{paste}
 use Rattle.script.specs.Hex.{pairs}
-use Rattle.script.proofs.Placed.{turn_front}
-use Rattle.script.proofs.Pairs.{length_pairs}
 use Rattle.script.proofs.hex.write_bytes.Given as goal
 
 abbrev pub invariant-loop-j : goal.invariant-loop-j

@@ -1,6 +1,5 @@
 -- `put_number` meets its contract: what is copied is the end of the twenty bytes, which holds v's digits.
 use native.Mathlib.Omega.{arith}
-use borrow.Author.Rules.{rules}
 use mathlib.Core.Path.{◌∙◌}
 use Prim.Native.Nat.{◌-◌}
 use lib.ListN.{drop, length-drop}

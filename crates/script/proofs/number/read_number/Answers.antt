@@ -1,10 +1,7 @@
 -- `read_number` meets its contract. The loop keeps what `number_from` answers for the digits left, from the value so far (`Numbers`).
 use native.Mathlib.Omega.{arith}
 use borrow.Author.Rules.{rules}
-use mathlib.Core.Path.{◌≡◌, sym, ◌∙◌}
-use Prim.Native.Nat.{◌-◌, ◌<◌, ◌^◌}
-use lib.ListN.{length, drop}
-use Rattle.script.specs.Number.{number_from, number_of}
+use mathlib.Core.Path.{sym, ◌∙◌}
 use Rattle.script.proofs.Numbers.{number-empty, number-some, read_on, read_end}
 use Rattle.script.proofs.number.read_number.Goals as goal
 

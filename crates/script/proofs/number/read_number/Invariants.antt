@@ -1,11 +1,8 @@
 -- `read_number` meets its contract. The loop keeps what `number_from` answers for the digits left, from the value so far (`Numbers`).
-use native.Mathlib.Omega.{arith}
-use borrow.Author.Rules.{rules}
-use mathlib.Core.Path.{◌≡◌, sym, ◌∙◌}
+use mathlib.Core.Path.{◌≡◌}
 use Prim.Native.Nat.{◌-◌, ◌<◌, ◌^◌}
 use lib.ListN.{length, drop}
 use Rattle.script.specs.Number.{number_from, number_of}
-use Rattle.script.proofs.Numbers.{number-empty, number-some, read_on, read_end}
 use Rattle.script.proofs.number.read_number.Given as goal
 
 abbrev pub invariant-loop-i : goal.invariant-loop-i

@@ -1,6 +1,5 @@
 -- `with_digit` meets its contract: the tests say whether the byte is a digit, and whether the number fits.
 use native.Mathlib.Omega.{arith}
-use borrow.Author.Rules.{rules}
 use Prim.Native.Nat.{◌+◌, ◌-◌, ◌*◌, ◌^◌}
 use borrow.Author.Tests.{lt-ltb, le-ltb}
 use Rattle.script.specs.Number.{number_from, all, value_from}

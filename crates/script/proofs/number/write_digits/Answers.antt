@@ -1,12 +1,8 @@
 -- `write_digits` meets its contract. The loop keeps that the digits of what is left, followed by those written, are the digits of v,
 -- and that there is room for what is left (`Decimal`).
 use native.Mathlib.Omega.{arith}
-use borrow.Author.Rules.{rules}
-use mathlib.Core.Path.{◌≡◌, sym, ◌∙◌}
-use mathlib.Core.List.{◌++◌}
-use Prim.Native.Nat.{◌≤◌, ◌<◌, ◌^◌}
-use lib.ListN.{length, drop, length-set}
-use Rattle.script.specs.Number.{digits_of, decimal}
+use mathlib.Core.Path.{sym, ◌∙◌}
+use lib.ListN.{length-set}
 use Rattle.script.proofs.Decimal.{digit_turn, digit-last, room, digits_none}
 use Rattle.script.proofs.number.write_digits.Goals as goal
 

@@ -1,13 +1,10 @@
 -- `write_digits` meets its contract. The loop keeps that the digits of what is left, followed by those written, are the digits of v,
 -- and that there is room for what is left (`Decimal`).
-use native.Mathlib.Omega.{arith}
-use borrow.Author.Rules.{rules}
-use mathlib.Core.Path.{◌≡◌, sym, ◌∙◌}
+use mathlib.Core.Path.{◌≡◌}
 use mathlib.Core.List.{◌++◌}
 use Prim.Native.Nat.{◌≤◌, ◌<◌, ◌^◌}
-use lib.ListN.{length, drop, length-set}
+use lib.ListN.{length, drop}
 use Rattle.script.specs.Number.{digits_of, decimal}
-use Rattle.script.proofs.Decimal.{digit_turn, digit-last, room, digits_none}
 use Rattle.script.proofs.number.write_digits.Given as goal
 
 abbrev pub invariant-loop-left : goal.invariant-loop-left

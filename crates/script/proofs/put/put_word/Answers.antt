@@ -1,6 +1,5 @@
 -- `put_word` meets its contract: what fits is copied, and what does not changes nothing.
 use native.Mathlib.Omega.{arith}
-use borrow.Author.Rules.{rules}
 use mathlib.Core.Path.{◌∙◌}
 use Rattle.script.proofs.Placed.{put-not, put_fit}
 use Rattle.script.proofs.put.put_word.Goals as goal

@@ -1,11 +1,8 @@
 -- `line_end` meets its contract, as `past_word` does, at another test.
-use native.Mathlib.Omega.{arith}
-use mathlib.Core.Path.{◌≡◌, refl, sym, ap, ◌∙◌}
+use mathlib.Core.Path.{sym, ap, ◌∙◌}
 use mathlib.Core.Bool.{not}
-use Prim.Native.Nat.{◌-◌}
-use lib.ListN.{length}
 use borrow.Author.Tests.{eq-eqb, ne_eqb}
-use Rattle.script.specs.Word.{not_newline, past}
+use Rattle.script.specs.Word.{not_newline}
 use Rattle.script.proofs.Scan.{stay, stop, none}
 use Rattle.script.proofs.word.line_end.Goals as goal
 

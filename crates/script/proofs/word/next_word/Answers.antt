@@ -1,5 +1,4 @@
 -- `next_word` meets its contract: the two callees answer the two places of `word_at`, and the test picks the word.
-use borrow.Author.Rules.{rules}
 use mathlib.Core.Path.{◌≡◌, ap, ap₂, ◌∙◌}
 use mathlib.Core.List.{List}
 use Prim.Native.Nat.{ℕ}

@@ -1,10 +1,7 @@
 -- `past_spaces` meets its contract. The loop keeps what `past` answers: over a space it is the same one place further on (`Scan`).
-use native.Mathlib.Omega.{arith}
-use mathlib.Core.Path.{◌≡◌, refl, sym, ◌∙◌}
-use Prim.Native.Nat.{◌-◌}
-use lib.ListN.{length}
+use mathlib.Core.Path.{sym, ◌∙◌}
 use borrow.Author.Tests.{eq-eqb, ne_eqb}
-use Rattle.script.specs.Word.{is_space, past}
+use Rattle.script.specs.Word.{is_space}
 use Rattle.script.proofs.Scan.{stay, stop, none}
 use Rattle.script.proofs.word.past_spaces.Goals as goal
 

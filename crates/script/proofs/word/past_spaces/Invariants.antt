@@ -1,11 +1,8 @@
 -- `past_spaces` meets its contract. The loop keeps what `past` answers: over a space it is the same one place further on (`Scan`).
-use native.Mathlib.Omega.{arith}
-use mathlib.Core.Path.{◌≡◌, refl, sym, ◌∙◌}
+use mathlib.Core.Path.{◌≡◌}
 use Prim.Native.Nat.{◌-◌}
 use lib.ListN.{length}
-use borrow.Author.Tests.{eq-eqb, ne_eqb}
 use Rattle.script.specs.Word.{is_space, past}
-use Rattle.script.proofs.Scan.{stay, stop, none}
 use Rattle.script.proofs.word.past_spaces.Given as goal
 
 abbrev pub invariant-loop-i : goal.invariant-loop-i

@@ -1,11 +1,8 @@
 -- `past_word` meets its contract, as `past_spaces` does, at the opposite test.
-use native.Mathlib.Omega.{arith}
-use mathlib.Core.Path.{◌≡◌, refl, sym, ap, ◌∙◌}
+use mathlib.Core.Path.{sym, ap, ◌∙◌}
 use mathlib.Core.Bool.{not}
-use Prim.Native.Nat.{◌-◌}
-use lib.ListN.{length}
 use borrow.Author.Tests.{eq-eqb, ne_eqb}
-use Rattle.script.specs.Word.{not_space, past}
+use Rattle.script.specs.Word.{not_space}
 use Rattle.script.proofs.Scan.{stay, stop, none}
 use Rattle.script.proofs.word.past_word.Goals as goal
 

@@ -1,6 +1,5 @@
 -- `be32_at` meets its contract: the test on what is left picks the case, and the number is what `get_be32` ensures.
 use mathlib.Core.Path.{sym}
-use borrow.Author.Rules.{rules}
 use borrow.Author.Tests.{lt-ltb, le-ltb}
 use Rattle.segment_reader.proofs.field.be32_at.Goals as goal
 

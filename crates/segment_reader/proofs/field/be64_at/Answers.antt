@@ -1,6 +1,5 @@
 -- `be64_at` meets its contract: the test on what is left picks the case, and the number is what `get_be64` ensures.
 use mathlib.Core.Path.{sym}
-use borrow.Author.Rules.{rules}
 use borrow.Author.Tests.{lt-ltb, le-ltb}
 use Rattle.segment_reader.proofs.field.be64_at.Goals as goal
 

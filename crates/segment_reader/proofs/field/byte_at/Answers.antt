@@ -1,6 +1,5 @@
 -- `byte_at` meets its contract: the test on what is left picks the case.
 use mathlib.Core.Path.{sym}
-use borrow.Author.Rules.{rules}
 use borrow.Author.Tests.{lt-ltb, le-ltb}
 use Rattle.segment_reader.proofs.field.byte_at.Goals as goal
 

@@ -1,6 +1,5 @@
 -- `header_of` meets its contract: the arms are the definition's cases, and the test on T picks.
 use mathlib.Core.Path.{sym, ◌∙◌}
-use borrow.Author.Rules.{rules}
 use Rattle.segment_reader.proofs.header.header_of.Goals as goal
 
 pub returns-in_default : goal.returns-in_default

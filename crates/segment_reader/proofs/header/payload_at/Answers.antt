@@ -3,7 +3,6 @@ use mathlib.Core.Path.{sym, ap, ◌∙◌}
 use lib.ListN.{length, drop_of_length-le}
 use native.Mathlib.Omega.{arith}
 use Rattle.segment_reader.specs.Header.{payload_after, payload_of}
-use borrow.Author.Rules.{rules}
 use Rattle.segment_reader.proofs.header.payload_at.Goals as goal
 
 pub returns-in-Tagged : goal.returns-in-Tagged

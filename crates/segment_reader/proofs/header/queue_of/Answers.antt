@@ -1,5 +1,4 @@
 -- `queue_of` meets its contract: the arms are the definition's cases.
-use borrow.Author.Rules.{rules}
 use Rattle.segment_reader.proofs.header.queue_of.Goals as goal
 
 pub returns : goal.returns

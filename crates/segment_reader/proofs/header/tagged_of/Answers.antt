@@ -1,6 +1,5 @@
 -- `tagged_of` meets its contract: the test on the version picks the case.
 use borrow.Author.Tests.{eq-eqb, ne_eqb}
-use borrow.Author.Rules.{rules}
 use Rattle.segment_reader.proofs.header.tagged_of.Goals as goal
 
 pub returns-then-first-eq1 : goal.returns-then-first-eq1

@@ -1,6 +1,5 @@
 -- `untagged_of` meets its contract: the arms are the definition's cases, and the test on the version picks.
 use borrow.Author.Tests.{eq-eqb, ne_eqb}
-use borrow.Author.Rules.{rules}
 use Rattle.segment_reader.proofs.header.untagged_of.Goals as goal
 
 pub returns-in_default : goal.returns-in_default

@@ -1,6 +1,6 @@
 -- `read_by_fields` meets its contract: the fields are read at the start of the slice and past the header's start, and the header of
 -- these fields is the ULPDU's (`header_turn`).
-use mathlib.Core.Path.{ap, ap₂, ◌∙◌}
+use mathlib.Core.Path.{ap₂, ◌∙◌}
 use Prim.Native.Nat.{ℕ}
 use mathlib.Core.List.{List}
 use denote.Ref.{Bor}

@@ -1,6 +1,5 @@
 -- `answer` meets its contract: at each return the tests that led there say which case of `answered_of` holds.
 use mathlib.Core.Path.{sym, ◌∙◌}
-use borrow.Author.Rules.{rules}
 use Rattle.startup2.specs.Agree.{answered_of}
 use Rattle.startup2.proofs.agree.answer.Goals as goal
 

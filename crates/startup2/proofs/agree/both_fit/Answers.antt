@@ -1,6 +1,5 @@
 -- `both_fit` meets its contract, case by case.
 use mathlib.Core.Path.{sym, ◌∙◌}
-use borrow.Author.Rules.{rules}
 use Rattle.startup2.proofs.agree.both_fit.Goals as goal
 
 pub returns-then-terms_fit : goal.returns-then-terms_fit

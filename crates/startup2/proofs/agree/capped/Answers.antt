@@ -1,6 +1,5 @@
 -- `capped` meets its contract, case by case.
 use borrow.Author.Tests.{eq-eqb, ne_eqb}
-use borrow.Author.Rules.{rules}
 use Rattle.startup2.proofs.agree.capped.Goals as goal
 
 pub returns-then-ird-eq-MAX_DEPTH : goal.returns-then-ird-eq-MAX_DEPTH

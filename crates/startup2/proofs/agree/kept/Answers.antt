@@ -1,5 +1,4 @@
 -- `kept` meets its contract, field by field.
-use borrow.Author.Rules.{rules}
 use Rattle.startup2.proofs.agree.kept.Goals as goal
 
 pub returns : goal.returns

@@ -1,6 +1,5 @@
 -- `kind_of` meets its contract: the tests that led to each return say which case of `kind_of` holds.
 use mathlib.Core.Path.{sym, ◌∙◌}
-use borrow.Author.Rules.{rules}
 use Rattle.startup2.proofs.agree.kind_of.Goals as goal
 
 pub returns-then-both_send : goal.returns-then-both_send

@@ -1,5 +1,4 @@
 -- `reply_of` meets its contract, field by field.
-use borrow.Author.Rules.{rules}
 use Rattle.startup2.proofs.agree.reply_of.Goals as goal
 
 pub returns : goal.returns

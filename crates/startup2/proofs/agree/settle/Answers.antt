@@ -1,6 +1,5 @@
 -- `settle` meets its contract: at each return the tests that led there say which case of `settled_of` holds.
 use mathlib.Core.Path.{sym, ◌∙◌}
-use borrow.Author.Rules.{rules}
 use Rattle.startup2.specs.Agree.{settled_of}
 use Rattle.startup2.proofs.agree.settle.Goals as goal
 

@@ -1,5 +1,4 @@
 -- `unanswerable` meets its contract: the kind is asked for where the request is peer to peer.
-use borrow.Author.Rules.{rules}
 use Rattle.startup2.proofs.agree.unanswerable.Goals as goal
 
 pub returns-then-request : goal.returns-then-request

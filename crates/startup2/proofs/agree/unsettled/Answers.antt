@@ -3,7 +3,6 @@ use Prim.Native.Nat.{ℕ}
 use mathlib.Core.Bool.{Bool, true, false}
 use mathlib.Core.Path.{◌≡◌, ap₂, ◌∙◌}
 use lib.Dec.{eqb}
-use borrow.Author.Rules.{rules}
 use Rattle.wire.specs.Wire.{pick, both}
 use Rattle.startup2.specs.Agree.{kind_of}
 use Rattle.startup2.proofs.agree.unsettled.Goals as goal

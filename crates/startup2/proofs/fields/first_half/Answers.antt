@@ -1,6 +1,5 @@
 -- `first_half` meets its contract: it is a number of 16 bits where the terms fit.
 use native.Mathlib.Omega.{arith}
-use borrow.Author.Rules.{rules}
 use Rattle.startup2.proofs.Fits.{fit}
 use Rattle.startup2.proofs.fields.first_half.Goals as goal
 

@@ -1,6 +1,5 @@
 -- `halves_terms` meets its contract, case by case.
 use borrow.Author.Tests.{le-leb, lt-leb}
-use borrow.Author.Rules.{rules}
 use Rattle.startup2.proofs.fields.halves_terms.Goals as goal
 
 pub returns-then-first-ge-FLAG_A : goal.returns-then-first-ge-FLAG_A

@@ -1,6 +1,5 @@
 -- `terms_at` meets its contract.
 use mathlib.Core.Path.{ap₂, ◌∙◌}
-use borrow.Author.Rules.{rules}
 use Rattle.startup2.specs.Terms.{halves_terms, terms_at}
 use Rattle.startup2.proofs.fields.terms_at.Goals as goal
 

@@ -1,7 +1,6 @@
 -- `admit` meets its contract: at each return the tests that led there say which case of `startup_written` holds.
 use mathlib.Core.Path.{sym, ◌∙◌}
 use borrow.Author.Tests.{lt-ltb, le-ltb}
-use borrow.Author.Rules.{rules}
 use Rattle.mpa.specs.Startup.{startup_written}
 use Rattle.startup2.proofs.frame.admit.Goals as goal
 

@@ -1,6 +1,5 @@
 -- `first_read` meets its contract, case by case.
 use mathlib.Core.Path.{sym, ap}
-use borrow.Author.Rules.{rules}
 use Rattle.startup2.specs.Frame.{first_read}
 use Rattle.startup2.proofs.frame.first_read.Goals as goal
 

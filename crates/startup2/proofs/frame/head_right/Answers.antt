@@ -8,7 +8,6 @@ use lib.Dec.{leb}
 use lib.ListN.{get_or}
 use lib.Seq.{length-take-le}
 use borrow.Author.Tests.{le-leb, lt-leb}
-use borrow.Author.Rules.{rules}
 use Rattle.wire.specs.Wire.{be16_at}
 use Rattle.mpa.specs.Startup.{max_private}
 use Rattle.mpa.proofs.Startups.{key_test}

@@ -4,7 +4,6 @@ use mathlib.Core.List.{List}
 use mathlib.Core.Path.{ap, ◌∙◌}
 use native.Mathlib.Omega.{arith}
 use lib.ListN.{set, length-set}
-use borrow.Author.Rules.{rules}
 use Rattle.wire.specs.Wire.{put, be16}
 use Rattle.startup2.proofs.Puts.{head_put}
 use Rattle.startup2.proofs.frame.put_head.Goals as goal

@@ -1,7 +1,6 @@
 -- `read_frame` meets its contract: at each return the tests that led there say which case of `frame_read` holds.
 use mathlib.Core.Path.{ap, ◌∙◌}
 use borrow.Author.Tests.{lt-ltb, le-ltb, eq-eqb, ne_eqb}
-use borrow.Author.Rules.{rules}
 use Rattle.startup2.specs.Frame.{first_read, frame_read}
 use Rattle.startup2.proofs.frame.read_frame.Goals as goal
 

@@ -1,8 +1,6 @@
 -- `read_second` meets its contract: at each return the tests that led there say which case of `second_read` holds.
 use mathlib.Core.Path.{sym, ◌∙◌}
-use native.Mathlib.Omega.{arith}
 use borrow.Author.Tests.{le-leb, lt-leb}
-use borrow.Author.Rules.{rules}
 use Rattle.startup2.specs.Frame.{second_read}
 use Rattle.startup2.proofs.frame.read_second.Goals as goal
 

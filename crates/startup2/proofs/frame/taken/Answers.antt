@@ -4,7 +4,6 @@ use mathlib.Core.Path.{sym, ◌∙◌}
 use native.Mathlib.Omega.{arith}
 use lib.ListN.{length, get_or}
 use borrow.Author.Tests.{lt-ltb, le-ltb}
-use borrow.Author.Rules.{rules}
 use Rattle.wire.specs.Wire.{be16_at}
 use Rattle.startup2.specs.Frame.{taken2_of}
 use Rattle.startup2.proofs.Fits.{head, terms_long}

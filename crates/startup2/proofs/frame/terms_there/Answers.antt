@@ -1,6 +1,5 @@
 -- `terms_there` meets its contract, case by case.
 use mathlib.Core.Path.{sym, ◌∙◌}
-use borrow.Author.Rules.{rules}
 use Rattle.startup2.proofs.frame.terms_there.Goals as goal
 
 pub returns-then-flag_s : goal.returns-then-flag_s

@@ -5,7 +5,6 @@ use mathlib.Core.List.{List, ◌++◌}
 use mathlib.Core.Path.{◌≡◌, sym, ap, ◌∙◌}
 use native.Mathlib.Omega.{arith}
 use lib.ListN.{length}
-use borrow.Author.Rules.{rules}
 use Rattle.wire.specs.Wire.{put}
 use Rattle.mpa.proofs.Frames.{refused, written}
 use Rattle.mpa.proofs.Startups.{Admitted, admitted}

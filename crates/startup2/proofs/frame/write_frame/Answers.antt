@@ -1,6 +1,5 @@
 -- `write_frame` meets its contract, form by form.
 use mathlib.Core.Path.{sym, ◌∙◌}
-use borrow.Author.Rules.{rules}
 use Rattle.startup2.proofs.Puts.{first_case, second_case, enhanced_case, unfit_case}
 use Rattle.startup2.proofs.frame.write_frame.Goals as goal
 

@@ -1,11 +1,10 @@
 -- `write_second` meets its contract: what is admitted is written whole.
-use Prim.Native.Nat.{ℕ, ◌+◌}
+use Prim.Native.Nat.{ℕ}
 use mathlib.Core.Bool.{false}
 use mathlib.Core.List.{List}
 use mathlib.Core.Path.{◌≡◌, sym, ap, ◌∙◌}
 use native.Mathlib.Omega.{arith}
 use lib.ListN.{length}
-use borrow.Author.Rules.{rules}
 use Rattle.wire.specs.Wire.{put}
 use Rattle.mpa.proofs.Frames.{refused, written}
 use Rattle.mpa.proofs.Startups.{Admitted, admitted}

@@ -1,7 +1,6 @@
 -- `put_be16` meets its contract: its stores in a row are one `put`.
 use native.Mathlib.Omega.{arith}
 use lib.ListN.{length-set}
-use borrow.Author.Rules.{rules}
 use Rattle.wire.proofs.Laws.{set_2}
 use Rattle.wire.proofs.number.put_be16.Goals as goal
 

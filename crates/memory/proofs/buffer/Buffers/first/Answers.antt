@@ -1,6 +1,5 @@
 -- `first` meets its contract: the test on the count picks the case of `first_of`.
 use Rattle.memory.specs.Buffer.{first_of}
-use borrow.Author.Rules.{rules}
 use borrow.Author.Tests.{eq-eqb, ne_eqb}
 use Rattle.memory.proofs.buffer.Buffers.first.Goals as goal
 

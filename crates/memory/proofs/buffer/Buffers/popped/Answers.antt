@@ -5,7 +5,6 @@ use mathlib.Core.Path.{◌≡◌}
 use lib.ListN.{length}
 use Rattle.memory.specs.Buffer.{popped_of, no_buffer}
 use Rattle.memory.proofs.Laws.{shifted}
-use borrow.Author.Rules.{rules}
 use borrow.Author.Tests.{eq-eqb, ne_eqb}
 use Rattle.memory.proofs.buffer.Buffers.popped.Goals as goal
 

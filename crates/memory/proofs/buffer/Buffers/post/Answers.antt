@@ -2,7 +2,6 @@
 use mathlib.Core.Path.{sym, ◌∙◌}
 use Rattle.memory.specs.Buffer.{posted}
 use Rattle.memory.proofs.Laws.{part_bound}
-use borrow.Author.Rules.{rules}
 use native.Mathlib.Omega.{arith}
 use borrow.Author.Tests.{lt-ltb, le-ltb}
 use Rattle.memory.proofs.buffer.Buffers.post.Goals as goal

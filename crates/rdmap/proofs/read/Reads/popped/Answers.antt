@@ -2,9 +2,8 @@
 -- and the empty one.
 use Prim.Native.Nat.{◌-◌}
 use mathlib.Core.Path.{◌≡◌}
-use lib.ListN.{length, length-map}
+use lib.ListN.{length}
 use borrow.Author.Tests.{eq-eqb, ne_eqb}
-use borrow.Author.Rules.{rules}
 use Rattle.memory.proofs.Laws.{shifted}
 use Rattle.rdmap.specs.Read.{popped_reads, no_read}
 use Rattle.rdmap.proofs.read.Reads.popped.Goals as goal

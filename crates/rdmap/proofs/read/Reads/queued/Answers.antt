@@ -1,6 +1,5 @@
 -- `queued` meets its contract: the test on the count picks the case of `queued_reads`.
 use borrow.Author.Tests.{lt-ltb, le-ltb}
-use borrow.Author.Rules.{rules}
 use Rattle.rdmap.specs.Read.{queued_reads}
 use Rattle.rdmap.proofs.read.Reads.queued.Goals as goal
 

@@ -3,8 +3,6 @@ use mathlib.Core.Path.{ap}
 use Rattle.memory.specs.declared.buffer.Posted.{Posted}
 use Rattle.rdmap.specs.declared.sends.Sends.{Sends}
 use Rattle.rdmap.specs.declared.sends.SendsPosted.{SendsPosted}
-use borrow.Author.Rules.{rules}
-use Rattle.memory.proofs.buffer.Buffers.post.Reads as post-reads
 use Rattle.rdmap.proofs.sends.Sends.post.Goals as goal
 
 -- the queue with the buffers that were answered

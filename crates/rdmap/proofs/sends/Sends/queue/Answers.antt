@@ -1,6 +1,4 @@
 -- `queue` meets its contract: the limit is the length of the buffer that `current` gives.
-use borrow.Author.Rules.{rules}
-use Rattle.rdmap.proofs.sends.Sends.current.Reads as current-reads
 use Rattle.rdmap.proofs.sends.Sends.queue.Goals as goal
 
 pub returns : goal.returns

@@ -1,7 +1,4 @@
 -- `sent` meets its contract: the number and the buffers are what the callees ensure.
-use borrow.Author.Rules.{rules}
-use Rattle.ddp.proofs.untagged.next_msn.Reads as next-msn-reads
-use Rattle.memory.proofs.buffer.Buffers.popped.Reads as popped-reads
 use Rattle.rdmap.proofs.sends.Sends.sent.Goals as goal
 
 pub returns : goal.returns

@@ -1,9 +1,6 @@
 -- `close` meets its contract: the phase picks the case of `closed`.
 use mathlib.Core.Path.{sym, ◌∙◌}
 use Rattle.rdmap.specs.Stream.{closed}
-use borrow.Author.Rules.{rules}
-use Rattle.rdmap.proofs.phase.Phase.is_closed.Reads as is-closed-reads
-use Rattle.rdmap.proofs.stream.closed_stream.Reads as closed-stream-reads
 use Rattle.rdmap.proofs.stream.Stream.close.Goals as goal
 
 pub returns-then-is_closed : goal.returns-then-is_closed

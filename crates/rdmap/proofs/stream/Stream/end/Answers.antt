@@ -1,9 +1,6 @@
 -- `end` meets its contract: the phase is what `ended_by` ensures.
 use mathlib.Core.Path.{ap, ◌∙◌}
 use Rattle.rdmap.specs.Stream.{in_phase}
-use borrow.Author.Rules.{rules}
-use Rattle.rdmap.proofs.phase.ended_by.Reads as ended-by-reads
-use Rattle.rdmap.proofs.stream.Stream.in_phase.Reads as in-phase-reads
 use Rattle.rdmap.proofs.stream.Stream.end.Goals as goal
 
 pub returns : goal.returns

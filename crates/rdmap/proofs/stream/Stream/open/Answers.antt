@@ -1,9 +1,6 @@
 -- `open` meets its contract: the phase picks the case of `opened`.
 use mathlib.Core.Path.{sym, ◌∙◌}
 use Rattle.rdmap.specs.Stream.{opened}
-use borrow.Author.Rules.{rules}
-use Rattle.rdmap.proofs.phase.Phase.is_closed.Reads as is-closed-reads
-use Rattle.rdmap.proofs.stream.opened_stream.Reads as opened-stream-reads
 use Rattle.rdmap.proofs.stream.Stream.open.Goals as goal
 
 pub returns-then-is_closed : goal.returns-then-is_closed

@@ -4,10 +4,6 @@ use Rattle.memory.specs.declared.part.Outcome.{Outcome}
 use Rattle.rdmap.specs.Stream.{posted_on, posted_when, posted_with}
 use Rattle.rdmap.specs.declared.stream.Stream.{Stream}
 use Rattle.rdmap.specs.declared.stream.StreamDone.{StreamDone}
-use borrow.Author.Rules.{rules}
-use Rattle.rdmap.proofs.phase.Phase.ready.Reads as ready-reads
-use Rattle.rdmap.proofs.sends.Sends.post.Reads as post-reads
-use Rattle.rdmap.proofs.stream.Stream.with_sends.Reads as with-sends-reads
 use Rattle.rdmap.proofs.stream.Stream.post.Goals as goal
 
 abbrev done : Outcome → Stream → StreamDone

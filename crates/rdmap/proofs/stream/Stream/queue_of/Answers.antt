@@ -1,7 +1,6 @@
 -- `queue_of` meets its contract: the number picks the case of `queue_of`, and the queue is what its own method ensures.
 use borrow.Author.Tests.{eq-eqb, ne_eqb}
 use Rattle.rdmap.specs.Message.{queue_of}
-use borrow.Author.Rules.{rules}
 use Rattle.rdmap.proofs.stream.Stream.queue_of.Goals as goal
 
 pub returns-then-qn-eq0 : goal.returns-then-qn-eq0

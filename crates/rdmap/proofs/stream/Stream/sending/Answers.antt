@@ -1,9 +1,6 @@
 -- `sending` meets its contract: the queue is what its own method ensures.
 use mathlib.Core.Path.{ap, ◌∙◌}
 use Rattle.rdmap.specs.Stream.{with_sends}
-use borrow.Author.Rules.{rules}
-use Rattle.rdmap.proofs.sends.Sends.sending.Reads as sending-reads
-use Rattle.rdmap.proofs.stream.Stream.with_sends.Reads as with-sends-reads
 use Rattle.rdmap.proofs.stream.Stream.sending.Goals as goal
 
 pub returns : goal.returns

@@ -1,9 +1,6 @@
 -- `sent` meets its contract: the queue is what its own method ensures.
 use mathlib.Core.Path.{ap, ◌∙◌}
 use Rattle.rdmap.specs.Stream.{with_sends}
-use borrow.Author.Rules.{rules}
-use Rattle.rdmap.proofs.sends.Sends.sent.Reads as sent-reads
-use Rattle.rdmap.proofs.stream.Stream.with_sends.Reads as with-sends-reads
 use Rattle.rdmap.proofs.stream.Stream.sent.Goals as goal
 
 pub returns : goal.returns

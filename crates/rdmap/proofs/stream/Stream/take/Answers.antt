@@ -1,15 +1,8 @@
 -- `take` meets its contract: a stream that is not ready keeps its record; of a ready one the test on the count picks the
 -- case of `taken_when`.
-use mathlib.Core.Path.{◌≡◌, sym, ap, ◌∙◌}
+use mathlib.Core.Path.{sym, ap, ◌∙◌}
 use borrow.Author.Tests.{eq-eqb, ne_eqb}
-use Rattle.rdmap.specs.Phase.{readiness}
 use Rattle.rdmap.specs.Stream.{taken_from, taken_when}
-use Rattle.rdmap.specs.declared.phase.Readiness.TheVariants.{Ready}
-use borrow.Author.Rules.{rules}
-use Rattle.rdmap.proofs.phase.Phase.ready.Reads as ready-reads
-use Rattle.rdmap.proofs.read.Reads.first.Reads as first_reads
-use Rattle.rdmap.proofs.read.Reads.popped.Reads as popped-reads
-use Rattle.rdmap.proofs.stream.Stream.with_reads.Reads as with-reads-reads
 use Rattle.rdmap.proofs.stream.Stream.take.Goals as goal
 
 pub returns-in-NotReady : goal.returns-in-NotReady

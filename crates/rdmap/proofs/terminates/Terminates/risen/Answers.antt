@@ -1,6 +1,4 @@
 -- `risen` meets its contract: the number is what `next_msn` ensures.
-use borrow.Author.Rules.{rules}
-use Rattle.ddp.proofs.untagged.next_msn.Reads as next-msn-reads
 use Rattle.rdmap.proofs.terminates.Terminates.risen.Goals as goal
 
 pub returns : goal.returns
