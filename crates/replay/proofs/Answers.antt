@@ -10,6 +10,7 @@ use lib.ListN.{length, take}
 use borrow.Author.Tests.{le-leb, lt-leb, leb-true}
 use Rattle.wire.specs.Wire.{pick, put}
 use Rattle.script.specs.Put.{put_in, put_end}
+use Rattle.std.specs.Prelude.{Result, Ok, Err, IfOk}
 use Rattle.replay.specs.Output.{gathered_count, gathered_bytes, answer_line}
 
 module _ (out more : List ℕ) (count : ℕ) where
@@ -56,3 +57,12 @@ printed text after out last n end count r p q f g =
       rw f w,
       (f ∙ (λ i. gathered_count (length out) count (length (take (p i) (q i)))), g ∙ (λ i. gathered_bytes out count (take (p i) (q i)))),
     )
+
+-- and how many are gathered then lies within the buffer, where nothing failed
+pub printed_fits :
+    {E : Type 0} (text after out : List ℕ) (n end count : ℕ) (r : Result ℕ E) → end ≡ put_end (10 ∷ []) text n → after ≡ put_in (10 ∷ []) text n
+    → IfOk r (λ m. m ≡ gathered_count (length out) count (length (take end after)))
+    → IfOk r (λ m. m ≤ length out)
+printed_fits text after out n end count (Ok m) p q f =
+    (printed text after out (gathered_bytes out count (take end after)) n end count m p q f refl).0
+printed_fits text after out n end count (Err e) p q f = f

@@ -1,34 +1,29 @@
 // The script's bytes, read in chunks and parted into lines.
-ghost use Rattle.io.specs.Counts.{IsPrefixLen};
+ghost use Rattle.std.specs.Io.{ReadsAtMost};
 
-use super::output::{FAILED, flush};
+use super::output::flush;
 use super::why::{Told, run_told};
 use holding::gather::ROOMS;
-use libc::{STDERR_FILENO, STDIN_FILENO};
 use running::line::add_bytes;
 use running::run::first_state;
 use script::word::line_end;
-
-// What one read of the script gives: whether it failed, and how many bytes came, 0 at the end.
-#[derive(Drop)]
-struct Chunk {
-    failed: bool,
-    count: usize,
-}
+use std::io;
+use std::io::{Read, Write};
 
 // The LENGTH of the last `open` of the lines so far, how many lines these are, and to how many of them a
-// reason was given; how many bytes of the next line are in; and whether an answer could not be written.
+// reason was given; and how many bytes of the next line are in.
 #[derive(Drop)]
 struct Reached {
     kept: u64,
     lines: u64,
     reasons: u64,
     count: usize,
-    failed: bool,
 }
 
 // Takes every byte of a chunk, runs each line that it ends, and writes their answers.
 fn take_chunk(
+    output: &mut impl Write,
+    errors: &mut impl Write,
     start: Reached,
     device: &mut [u64; 945],
     message: &mut [u64; 9],
@@ -41,7 +36,7 @@ fn take_chunk(
     rooms: &mut [u8; ROOMS],
     text: &mut [u8],
     out: &mut [u8],
-) -> Reached {
+) -> io::Result<Reached> {
     let mut told = Told {
         kept: start.kept,
         gathered: 0,
@@ -58,35 +53,37 @@ fn take_chunk(
         }
         i = end + 1;
         told = run_told(
-            told, device, message, held, line, count, bytes, frame, store, rooms, text, out,
-        );
+            output, errors, told, device, message, held, line, count, bytes, frame, store, rooms,
+            text, out,
+        )?;
         count = 0;
     }
-    let failed = flush(out, told.gathered);
-    Reached {
+    flush(output, errors, out, told.gathered)?;
+    Ok(Reached {
         kept: told.kept,
         lines: told.lines,
         reasons: told.reasons,
         count,
-        failed,
-    }
+    })
 }
 
-// Reads some of the script into the chunk.
-fn read_chunk(chunk: &mut [u8]) -> Chunk
-    ensures { IsPrefixLen result.count chunk.new }
+// Reads some of the script into the chunk, says so where that fails, and answers how many bytes came, 0 at the end.
+fn read_chunk(input: &mut impl Read, errors: &mut impl Write, chunk: &mut [u8]) -> io::Result<usize>
+    ensures { ReadsAtMost result chunk.new }
 {
-    let got = libc::read(STDIN_FILENO, chunk);
-    let count = io::count(got, chunk);
-    Chunk {
-        failed: got < 0,
-        count,
+    let got = input.read(chunk);
+    if got.is_err() {
+        let _ = errors.write_all(b"replay: the script could not be read\n");
     }
+    got
 }
 
-// Runs the whole script, or as much of it as can be answered. A proved loop has to end, and nothing says that the input does: so the loop
-// counts its turns down, from a number that no run uses up.
+// Runs the whole script, or as much of it as can be read and answered. A proved loop has to end, and nothing says that the
+// input does: so the loop has a number of turns that no run uses up.
 pub fn run_script(
+    input: &mut impl Read,
+    output: &mut impl Write,
+    errors: &mut impl Write,
     device: &mut [u64; 945],
     message: &mut [u64; 9],
     held: &mut [u8],
@@ -98,32 +95,24 @@ pub fn run_script(
     rooms: &mut [u8; ROOMS],
     text: &mut [u8],
     out: &mut [u8],
-) {
-    let mut turns = u64::MAX;
+) -> io::Result<()> {
     let mut reached = Reached {
         kept: first_state(device),
         lines: 0,
         reasons: 0,
         count: 0,
-        failed: false,
     };
-    while turns > 0 {
-        if reached.failed {
-            return;
-        }
-        let got = read_chunk(chunk);
-        if got.failed {
-            say_failed();
-            return;
-        }
-        let n = got.count;
+    for _ in 0..u64::MAX {
+        let n = read_chunk(input, errors, chunk)?;
         if n == 0 {
-            run_rest(
-                reached, device, message, held, line, bytes, frame, store, rooms, text, out,
+            return run_rest(
+                output, errors, reached, device, message, held, line, bytes, frame, store, rooms,
+                text, out,
             );
-            return;
         }
         reached = take_chunk(
+            output,
+            errors,
             reached,
             device,
             message,
@@ -136,13 +125,15 @@ pub fn run_script(
             rooms,
             text,
             out,
-        );
-        turns -= 1;
+        )?;
     }
+    Ok(())
 }
 
 // Runs the last line, where it lacks its newline, and writes its answer.
 fn run_rest(
+    output: &mut impl Write,
+    errors: &mut impl Write,
     reached: Reached,
     device: &mut [u64; 945],
     message: &mut [u64; 9],
@@ -154,7 +145,7 @@ fn run_rest(
     rooms: &mut [u8; ROOMS],
     text: &mut [u8],
     out: &mut [u8],
-) {
+) -> io::Result<()> {
     let count = reached.count;
     if count > 0 {
         let told = Told {
@@ -164,14 +155,10 @@ fn run_rest(
             reasons: reached.reasons,
         };
         let last = run_told(
-            told, device, message, held, line, count, bytes, frame, store, rooms, text, out,
-        );
-        flush(out, last.gathered);
+            output, errors, told, device, message, held, line, count, bytes, frame, store, rooms,
+            text, out,
+        )?;
+        return flush(output, errors, out, last.gathered);
     }
-}
-
-// Says that the script could not be read to its end.
-fn say_failed() {
-    io::write_all(STDERR_FILENO, b"replay: the script could not be read\n");
-    io::write_all(FAILED, b"read\n");
+    Ok(())
 }

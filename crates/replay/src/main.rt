@@ -10,6 +10,7 @@ ghost use Rattle.std.specs.Prelude.{◌≡◌, length};
 ghost use Rattle.rnic.specs.Offer.{rooms_bytes};
 
 use holding::gather::ROOMS;
+use std::process::ExitCode;
 
 mod input;
 mod output;
@@ -37,22 +38,32 @@ fn new_text() -> [u8; 2097184]
     [0; 2097184]
 }
 
+// Room for a chunk of the script, a line, a frame or the answers that are gathered.
+fn new_buffer() -> [u8; 65536]
+    ensures { 65536 ≡ length result }
+{
+    [0; 65536]
+}
+
 // Lends the device's words, the message begun last, the store, the second slice and the buffers. `bytes`
 // holds what the hex of a line stands for, less than half of the line, `held` what that of the message
 // did; `out` gathers answers.
-fn main() {
+fn main(rt: HostRuntime) -> ExitCode {
     let mut device = [0u64; 945];
     let mut message = sending::no_message();
     let mut held = [0u8; 32768];
-    let mut chunk = io::large_buffer();
-    let mut line = io::large_buffer();
+    let mut chunk = new_buffer();
+    let mut line = new_buffer();
     let mut bytes = [0u8; 32768];
-    let mut frame = io::large_buffer();
+    let mut frame = new_buffer();
     let mut store = new_store();
     let mut rooms = new_rooms();
     let mut text = new_text();
-    let mut out = io::large_buffer();
-    input::run_script(
+    let mut out = new_buffer();
+    let ran = input::run_script(
+        &mut rt.stdin(),
+        &mut rt.stdout(),
+        &mut rt.stderr(),
         &mut device,
         &mut message,
         &mut held,
@@ -65,4 +76,9 @@ fn main() {
         &mut text,
         &mut out,
     );
+    if ran.is_ok() {
+        ExitCode::SUCCESS
+    } else {
+        ExitCode::FAILURE
+    }
 }

@@ -1,12 +1,13 @@
 // Why a line is `bad`, said on standard error. The answers stay on standard output.
-ghost use Rattle.std.specs.Prelude.{◌≤◌, length};
+ghost use Rattle.std.specs.Prelude.{◌≤◌, length, IfOk};
 
 use super::output::{flush, print_answer};
 use holding::gather::ROOMS;
-use libc::STDERR_FILENO;
 use reasons::{explain, explain_long};
 use running::run::run_line;
 use script::put::put_word;
+use std::io;
+use std::io::Write;
 use wire::copy::same;
 
 // How many reasons a run gives.
@@ -39,37 +40,41 @@ fn is_bad(text: &[u8]) -> bool {
     same(&text[..end], b"bad\n")
 }
 
-// Writes the first n bytes of the text to standard error.
-fn say(text: &[u8], n: usize)
+// Writes the first n bytes of the text to standard error. A reason that cannot be written stops nothing.
+fn say(errors: &mut impl Write, text: &[u8], n: usize)
     requires { n ≤ length text.now }
 {
-    io::write_all(STDERR_FILENO, &text[..n]);
+    let _ = errors.write_all(&text[..n]);
 }
 
 // Says why the line of that number is `bad`, which the buffer `line` starts with unless it is too long. The
 // reason is put where its answer stood.
-fn give_reason(number: u64, line: &[u8], count: usize, text: &mut [u8]) {
+fn give_reason(errors: &mut impl Write, number: u64, line: &[u8], count: usize, text: &mut [u8]) {
     if line.len() < count {
         let n = explain_long(number, text);
-        say(text, n);
+        say(errors, text, n);
         return;
     }
     let n = explain(number, &line[..count], text);
-    say(text, n);
+    say(errors, text, n);
 }
 
 // Gives the reason of a line that is `bad`, where not too many are given, and answers how many are then.
-fn tell_reason(reasons: u64, number: u64, line: &[u8], count: usize, text: &mut [u8]) -> u64 {
+fn tell_reason(
+    errors: &mut impl Write,
+    reasons: u64,
+    number: u64,
+    line: &[u8],
+    count: usize,
+    text: &mut [u8],
+) -> u64 {
     if reasons < MOST {
-        give_reason(number, line, count, text);
+        give_reason(errors, number, line, count, text);
         return reasons + 1;
     }
     put_word(b"-", text, 0);
     if reasons == MOST {
-        io::write_all(
-            STDERR_FILENO,
-            b"replay: more lines are bad; the first 100 reasons are given\n",
-        );
+        let _ = errors.write_all(b"replay: more lines are bad; the first 100 reasons are given\n");
         return reasons + 1;
     }
     reasons
@@ -77,31 +82,41 @@ fn tell_reason(reasons: u64, number: u64, line: &[u8], count: usize, text: &mut 
 
 // Counts a line that was run and, where the text is the answer `bad`, writes what is gathered and then says
 // why. The text is no answer afterwards, so that a line without one is not taken for a bad one.
-fn tell_why(told: Told, line: &[u8], count: usize, text: &mut [u8], out: &[u8]) -> Told
+fn tell_why(
+    output: &mut impl Write,
+    errors: &mut impl Write,
+    told: Told,
+    line: &[u8],
+    count: usize,
+    text: &mut [u8],
+    out: &[u8],
+) -> io::Result<Told>
     requires { told.gathered ≤ length out.now }
-    ensures { result.gathered ≤ length out.now }
+    ensures { IfOk result (λ t. t.gathered ≤ length out.now) }
 {
     let lines = one_more(told.lines);
     if is_bad(text) {
-        flush(out, told.gathered);
-        let reasons = tell_reason(told.reasons, lines, line, count, text);
-        return Told {
+        flush(output, errors, out, told.gathered)?;
+        let reasons = tell_reason(errors, told.reasons, lines, line, count, text);
+        return Ok(Told {
             kept: told.kept,
             gathered: 0,
             lines,
             reasons,
-        };
+        });
     }
-    Told {
+    Ok(Told {
         kept: told.kept,
         gathered: told.gathered,
         lines,
         reasons: told.reasons,
-    }
+    })
 }
 
 // Runs a line, as `run_line` does, gathers its answer, and says why it is `bad` where it is.
 pub fn run_told(
+    output: &mut impl Write,
+    errors: &mut impl Write,
     told: Told,
     device: &mut [u64; 945],
     message: &mut [u64; 9],
@@ -114,19 +129,19 @@ pub fn run_told(
     rooms: &mut [u8; ROOMS],
     text: &mut [u8],
     out: &mut [u8],
-) -> Told
+) -> io::Result<Told>
     requires { told.gathered ≤ length out.old }
-    ensures { result.gathered ≤ length out.old }
+    ensures { IfOk result (λ t. t.gathered ≤ length out.old) }
 {
     let ran = run_line(
         told.kept, device, message, held, line, count, bytes, frame, store, rooms, text,
     );
-    let gathered = print_answer(text, ran.count, out, told.gathered);
+    let gathered = print_answer(output, errors, text, ran.count, out, told.gathered)?;
     let answered = Told {
         kept: ran.kept,
         gathered,
         lines: told.lines,
         reasons: told.reasons,
     };
-    tell_why(answered, line, count, text, out)
+    tell_why(output, errors, answered, line, count, text, out)
 }

@@ -10,35 +10,35 @@ use Rattle.running.proofs.Gathered.{end-within}
 use Rattle.replay.proofs.input.take_chunk.Goals as goal
 
 pub slice_bounds-add_bytes-count : goal.slice_bounds-add_bytes-count
-slice_bounds-add_bytes-count c = (end-within _ _ _ c.loop-i-test.true c.line_end-end.ensures).0
+slice_bounds-add_bytes-count g c = (end-within _ _ _ c.loop-i-test.true c.line_end-end.ensures).0
 
 pub slice_bounds-add_bytes-start : goal.slice_bounds-add_bytes-start
-slice_bounds-add_bytes-start c =
+slice_bounds-add_bytes-start g c =
     let w = end-within _ _ _ c.loop-i-test.true c.line_end-end.ensures in
     omega (arith, w.0, w.1)
 
 pub slice_bounds-add_bytes-end : goal.slice_bounds-add_bytes-end
-slice_bounds-add_bytes-end c =
+slice_bounds-add_bytes-end g c =
     let w = end-within _ _ _ c.loop-i-test.true c.line_end-end.ensures in
     omega (arith, w.0, w.1)
 
 pub overflow_add-i : goal.overflow_add-i
-overflow_add-i c =
+overflow_add-i g c =
     let w = end-within _ _ _ c.loop-i-test.true c.line_end-end.ensures in
     search rules
 
 pub loop-i-smaller : goal.loop-i-smaller
-loop-i-smaller c =
+loop-i-smaller g c =
     let w = end-within _ _ _ c.loop-i-test.true c.line_end-end.ensures in
     search rules
 
 pub loop-i-preserved : goal.loop-i-preserved
-loop-i-preserved c =
+loop-i-preserved g c =
     let w = end-within _ _ _ c.loop-i-test.true c.line_end-end.ensures in
     search rules
 
 pub shape_of-line : goal.shape_of-line
-shape_of-line c =
+shape_of-line g c =
     ⊎_elim
     (λ w. search rules)
     (λ w.

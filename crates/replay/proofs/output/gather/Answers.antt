@@ -6,22 +6,34 @@ use borrow.Author.Rules.{rules}
 use Rattle.replay.proofs.Answers.{gathered-behind, gathered_alone, gathered_none}
 use Rattle.replay.proofs.output.gather.Goals as goal
 
-pub returns-then-more-out : goal.returns-then-more-out
-returns-then-more-out c =
+pub returns-then-more-out-clause-next : goal.returns-then-more-out-clause-next
+returns-then-more-out-clause-next g c =
     let a = c.args in
     let h : a.count + length a.more.now ≤ length a.out.now = search rules in
-    let p = gathered-behind a.out.now a.more.now a.count h in
-    record { next = p.0; bytes = c.copy.ensures ∙ p.1 }
+    (gathered-behind a.out.now a.more.now a.count h).0
 
-pub returns-then-more-out-2 : goal.returns-then-more-out-2
-returns-then-more-out-2 c =
+pub returns-then-more-out-clause-bytes : goal.returns-then-more-out-clause-bytes
+returns-then-more-out-clause-bytes g c =
+    let a = c.args in
+    let h : a.count + length a.more.now ≤ length a.out.now = search rules in
+    c.copy.ensures ∙ (gathered-behind a.out.now a.more.now a.count h).1
+
+pub returns-then-more-out-2-clause-next : goal.returns-then-more-out-2-clause-next
+returns-then-more-out-2-clause-next g c =
     let a = c.args in
     let h : length a.out.now < a.count + length a.more.now = search rules in
     let k : length a.more.now ≤ length a.out.now = search rules in
-    let p = gathered_alone a.out.now a.more.now a.count h k in
-    record { next = p.0; bytes = c.copy-then-more-out-2.ensures ∙ p.1 }
+    (gathered_alone a.out.now a.more.now a.count h k).0
 
-pub returns : goal.returns
-returns c =
+pub returns-then-more-out-2-clause-bytes : goal.returns-then-more-out-2-clause-bytes
+returns-then-more-out-2-clause-bytes g c =
     let a = c.args in
-    let whole = gathered_none a.out.now a.more.now a.count (search rules) in record { next = whole.0; bytes = whole.1 }
+    let h : length a.out.now < a.count + length a.more.now = search rules in
+    let k : length a.more.now ≤ length a.out.now = search rules in
+    c.copy-then-more-out-2.ensures ∙ (gathered_alone a.out.now a.more.now a.count h k).1
+
+pub returns-clause-next : goal.returns-clause-next
+returns-clause-next g c = let a = c.args in (gathered_none a.out.now a.more.now a.count (search rules)).0
+
+pub returns-clause-bytes : goal.returns-clause-bytes
+returns-clause-bytes g c = let a = c.args in (gathered_none a.out.now a.more.now a.count (search rules)).1

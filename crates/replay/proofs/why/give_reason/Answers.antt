@@ -5,4 +5,4 @@ use borrow.Author.Rules.{rules}
 use Rattle.replay.proofs.why.give_reason.Goals as goal
 
 pub slice_bounds-explain-end : goal.slice_bounds-explain-end
-slice_bounds-explain-end c = sym (length-take-le _ _ (search rules))
+slice_bounds-explain-end g c = sym (length-take-le _ _ (search rules))
