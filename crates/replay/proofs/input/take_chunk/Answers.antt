@@ -1,10 +1,5 @@
 -- `take_chunk` is safe and ends: a line that starts within the chunk ends within it, and the next one starts further on. The lent slices keep their lengths; the measure is what is left of the chunk.
-use Prim.Native.Nat.{ℕ, ◌-◌, ◌≤◌}
-use mathlib.Core.Path.{◌≡◌, ap}
-use mathlib.Core.Logic.{⊎_elim}
-use mathlib.Core.List.{List}
 use native.Mathlib.Omega.{arith}
-use lib.ListN.{length}
 use borrow.Author.Rules.{rules}
 use Rattle.running.proofs.Gathered.{end-within}
 use Rattle.replay.proofs.input.take_chunk.Goals as goal
@@ -36,13 +31,3 @@ pub loop-i-preserved : goal.loop-i-preserved
 loop-i-preserved g c =
     let w = end-within _ _ _ c.loop-i-test.true c.line_end-end.ensures in
     search rules
-
-pub shape_of-line : goal.shape_of-line
-shape_of-line g c =
-    ⊎_elim
-    (λ w. search rules)
-    (λ w.
-    let e = ap (λ (l : List ℕ). length l) w.8 in
-    let k = w.4.kept.0 in
-    search rules)
-    c.loop-i-test.branch

@@ -1,16 +1,11 @@
 -- `take_chunk` is safe and ends: a line that starts within the chunk ends within it, and the next one starts further on. The lent slices keep their lengths; the measure is what is left of the chunk.
-use Prim.Native.Nat.{ℕ, ◌-◌, ◌≤◌}
-use mathlib.Core.Path.{◌≡◌, ap}
-use mathlib.Core.Logic.{⊎_elim}
-use mathlib.Core.List.{List}
-use native.Mathlib.Omega.{arith}
+use Prim.Native.Nat.{◌-◌, ◌≤◌}
+use mathlib.Core.Path.{◌≡◌}
 use lib.ListN.{length}
-use borrow.Author.Rules.{rules}
-use Rattle.running.proofs.Gathered.{end-within}
 use Rattle.replay.proofs.input.take_chunk.Given as goal
 
 abbrev pub invariant-loop-i : goal.invariant-loop-i
-invariant-loop-i l = (l.i ≤ length l.chunk)
+invariant-loop-i g l = (l.i ≤ length l.chunk)
     × (l.told.gathered ≤ length l.out)
     × (length l.held ≡ length l.initial.held)
     × (length l.line ≡ length l.initial.line)
@@ -21,4 +16,4 @@ invariant-loop-i l = (l.i ≤ length l.chunk)
     × (length l.out ≡ length l.initial.out)
 
 abbrev pub decreases-loop-i : goal.decreases-loop-i
-decreases-loop-i l = length l.chunk - l.i
+decreases-loop-i g l = length l.chunk - l.i

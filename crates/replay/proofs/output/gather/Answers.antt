@@ -14,9 +14,8 @@ returns-then-more-out-clause-next g c =
 
 pub returns-then-more-out-clause-bytes : goal.returns-then-more-out-clause-bytes
 returns-then-more-out-clause-bytes g c =
-    let a = c.args in
-    let h : a.count + length a.more.now ≤ length a.out.now = search rules in
-    c.copy.ensures ∙ (gathered-behind a.out.now a.more.now a.count h).1
+    let h : c.args.count + length c.args.more.now ≤ length c.args.out.now = search rules in
+    c.copy.ensures ∙ (gathered-behind c.args.out.now c.args.more.now c.args.count h).1
 
 pub returns-then-more-out-2-clause-next : goal.returns-then-more-out-2-clause-next
 returns-then-more-out-2-clause-next g c =
@@ -27,10 +26,9 @@ returns-then-more-out-2-clause-next g c =
 
 pub returns-then-more-out-2-clause-bytes : goal.returns-then-more-out-2-clause-bytes
 returns-then-more-out-2-clause-bytes g c =
-    let a = c.args in
-    let h : length a.out.now < a.count + length a.more.now = search rules in
-    let k : length a.more.now ≤ length a.out.now = search rules in
-    c.copy-then-more-out-2.ensures ∙ (gathered_alone a.out.now a.more.now a.count h k).1
+    let h : length c.args.out.now < c.args.count + length c.args.more.now = search rules in
+    let k : length c.args.more.now ≤ length c.args.out.now = search rules in
+    c.copy-then-more-out-2.ensures ∙ (gathered_alone c.args.out.now c.args.more.now c.args.count h k).1
 
 pub returns-clause-next : goal.returns-clause-next
 returns-clause-next g c = let a = c.args in (gathered_none a.out.now a.more.now a.count (search rules)).0
