@@ -1,5 +1,5 @@
 // What the program writes. Answers are gathered in a buffer, so that many of them go out by one write.
-ghost use Rattle.std.specs.Prelude.{◌≡◌, ◌≤◌, length, IfOk, OnOk, OnErr};
+ghost use Rattle.std.specs.Prelude.{◌≡◌, ◌≤◌, ◌+◌, length, IsOk, IfOk, OnOk, OnErr};
 ghost use Rattle.replay.specs.Output.{gathered_count, gathered_bytes, answer_line};
 
 use script::put::put_word;
@@ -39,6 +39,7 @@ fn gather(
     requires { count ≤ length out.old }
     ensures next { IfOk result (λ n. n ≡ gathered_count (length out.old) count (length more.now)) }
     ensures bytes { OnOk result (out.new ≡ gathered_bytes out.old count more.now) }
+    ensures fit { count + length more.now ≤ length out.old → IsOk result }
     ensures err { OnErr result (out.new ≡ out.old) }
 {
     if more.len() <= out.len() - count {
@@ -68,6 +69,7 @@ pub fn print(
     ensures within { IfOk result (λ m. m ≤ length out.old) }
     ensures next { IfOk result (λ m. m ≡ gathered_count (length out.old) count (length (answer_line text.old n))) }
     ensures bytes { OnOk result (out.new ≡ gathered_bytes out.old count (answer_line text.old n)) }
+    ensures fit { count + length (answer_line text.old n) ≤ length out.old → IsOk result }
     ensures err { OnErr result (out.new ≡ out.old) }
 {
     let end = put_word(b"\n", text, n);
@@ -85,6 +87,7 @@ pub fn print_answer(
 ) -> io::Result<usize>
     requires { (n ≤ length text.old) × (count ≤ length out.old) }
     ensures within { IfOk result (λ m. m ≤ length out.old) }
+    ensures fit { count + length (answer_line text.old n) ≤ length out.old → IsOk result }
     ensures err { OnErr result (out.new ≡ out.old) }
 {
     if n > 0 {
