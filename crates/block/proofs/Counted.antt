@@ -7,7 +7,7 @@ use lib.ListN.{length, get_or}
 use Rattle.wire.specs.Wire.{part}
 use Rattle.wire.proofs.Laws.{part-one, part-put}
 use Rattle.meter.specs.Gauge.{counted_meter, ticked_meter}
-use Rattle.meter.specs.Words.{meter_at, meter_of, meter_words, counted_word}
+use Rattle.meter.specs.Words.{meter_of, meter_words, counted_word}
 use Rattle.meter.specs.Invariant.{Encodable}
 use Rattle.meter.specs.declared.Meter.{Meter}
 use Rattle.meter.proofs.Encoding.{meter_encodable, words_back, counted-word}

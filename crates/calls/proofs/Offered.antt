@@ -5,7 +5,6 @@ use native.Mathlib.Omega.{arith}
 use lib.ListN.{get_or}
 use Rattle.arrival.specs.declared.Answer.{Answer}
 use Rattle.arrival.specs.declared.Answer.TheVariants.{Wait, Taken, Ended, Refused}
-use Rattle.arrival.specs.declared.Event.{Event}
 use Rattle.arrival.specs.declared.Event.TheVariants.{NoEvent, Sent, SentInvalidating, Terminated}
 use Rattle.holding.specs.Offer.{offer_answer}
 use Rattle.calls.specs.Words.{answer_words, offer_words, offered_words}

@@ -1,13 +1,10 @@
 -- A call by its number: what it makes of the device and of the store, and the words of its answer. Each is the device's own call of specs/Rnic.antt of the crate `rnic`.
-use Rattle.std.specs.Prelude.{ℕ, Bool, not, List, [], length, get_or, eqb}
+use Rattle.std.specs.Prelude.{ℕ, Bool, not, List, get_or, eqb}
 use Rattle.wire.specs.Wire.{pick}
 use Rattle.rnic.specs.Rnic.{opened_rnic, rnic_opened, rnic_closed, rnic_posted, rnic_taken, rnic_state, rnic_received, rnic_received_store, rnic_registered, rnic_dropped, rnic_live, rnic_free, rnic_ticked, rnic_reading}
 use Rattle.rnic.specs.Offer.{rnic_offered, rnic_offer_answer}
 use Rattle.rnic.specs.declared.Rnic.{Rnic}
 use Rattle.rnic.specs.declared.RnicDone.{RnicDone}
-use Rattle.rnic.specs.declared.RnicClosed.{RnicClosed}
-use Rattle.rnic.specs.declared.RnicTaken.{RnicTaken}
-use Rattle.rnic.specs.declared.RnicReceived.{RnicReceived}
 use Rattle.calls.specs.Words.{refused_words, outcome_words, close_words, take_words, count_words, reading_words, state_words, answer_words, offer_words}
 
 -- the device after a call, and the answer's words

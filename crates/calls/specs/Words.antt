@@ -17,7 +17,6 @@ use Rattle.arrival.specs.declared.Answer.TheVariants.{Wait, Taken, Ended, Refuse
 use Rattle.holding.specs.declared.OfferAnswer.{OfferAnswer}
 use Rattle.holding.specs.declared.OfferAnswer.TheVariants.{Kept, Completed, Ended as OfferEnded, Refused as OfferRefused}
 use Rattle.meter.specs.Words.{level_bits}
-use Rattle.meter.specs.declared.gauge.Reading.{Reading}
 use Rattle.meter.specs.declared.gauge.Reading.TheVariants.{Quiet, Steady, Falling}
 use Rattle.rnic.specs.declared.ReadingAnswer.{ReadingAnswer}
 use Rattle.rnic.specs.declared.ReadingAnswer.TheVariants.{Reads, Refused as NotRead}

@@ -17,7 +17,7 @@ use Rattle.cuts.specs.Cuts.{Step, Offered, offer_of, offer, after, drain, drain_
 use Rattle.cuts.specs.Cuts.Step.{waits, took, ends, refuses}
 use Rattle.cuts.specs.Cuts.Answer.{done, ended, refused}
 use Rattle.cuts.specs.Received.{Side, Report, side_after, step_of, received, MayHold, Short, Over}
-use Rattle.cuts.specs.Received.Report.{event, refusal}
+use Rattle.cuts.specs.Received.Report.{event}
 use Rattle.cuts.proofs.Cuts.{Shut, drain-holding, fresh, cut_law, pieces_law, cuts_same, byte-by-byte, calls_law, calls_same, offer_quick, shut-offer, ended-shut, end-last}
 use Rattle.cuts.proofs.Received.{machine, held_short, Left, left}
 

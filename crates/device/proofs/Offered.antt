@@ -1,6 +1,6 @@
 -- An offer on the stream of a domain's slot of a block: where nothing is held it is receive on the offer's bytes, where something is it is
 -- receive on the bytes gathered in the room, and what completes nothing is held.
-use Prim.Native.Nat.{ℕ, ◌+◌, ◌-◌, ◌≤◌, ◌<◌}
+use Prim.Native.Nat.{ℕ, ◌+◌, ◌≤◌, ◌<◌}
 use mathlib.Core.Bool.{Bool, true, false}
 use mathlib.Core.List.{List, [], ◌++◌}
 use mathlib.Core.Path.{◌≡◌, refl, sym, ap, ap₂, subst, ◌∙◌}

@@ -1,8 +1,7 @@
 -- Receive on the stream of a domain's slot of a block: a stream that is not ready is left, and of a ready one the first segment decides.
 use Prim.Native.Nat.{ℕ, ◌<◌}
-use mathlib.Core.Bool.{Bool}
 use mathlib.Core.List.{List}
-use mathlib.Core.Path.{◌≡◌, refl, sym, ap, subst, ◌∙◌}
+use mathlib.Core.Path.{◌≡◌, sym, ap, subst, ◌∙◌}
 use Rattle.memory.specs.declared.part.Part.{Part}
 use Rattle.ddp.specs.Segment.{segment_read}
 use Rattle.ddp.specs.declared.segment.SegmentRead.{SegmentRead}

@@ -16,10 +16,9 @@ use Rattle.mpa.specs.Fpdu.{max_ulpdu, needed_for}
 use Rattle.mpa.proofs.Length.{total-two, needed-low, needed_limit}
 use Rattle.memory.specs.declared.part.Part.{Part}
 use Rattle.memory.specs.declared.window.Window.{Window}
-use Rattle.ddp.specs.Refusal.{ulpdu_too_long}
 use Rattle.ddp.specs.Segment.{segment_read}
 use Rattle.ddp.specs.declared.segment.SegmentRead.{SegmentRead}
-use Rattle.ddp.specs.declared.segment.SegmentRead.TheVariants.{Wait as SegmentWait, Refused as SegmentRefused}
+use Rattle.ddp.specs.declared.segment.SegmentRead.TheVariants.{Wait as SegmentWait}
 use Rattle.rdmap.specs.declared.stream.Stream.{Stream}
 use Rattle.arrival.specs.Parts.{parts_applied, parts_judged, parts_placed, parts_answered, parts_unchanged}
 use Rattle.arrival.specs.declared.Answer.{Answer}
@@ -27,7 +26,7 @@ use Rattle.arrival.specs.declared.Answer.TheVariants.{Wait, Taken, Ended, Refuse
 use Rattle.arrival.specs.declared.parts.PartsReceived.{PartsReceived}
 use Rattle.arrival.proofs.Inside.{segment_inside}
 use Rattle.arrival.proofs.Inside.{ends as end_of}
-use Rattle.cuts.proofs.Read.{size_of, Long, Begun, Whole, Kind, kind_of, few_read, long_read, begun_read, own-long, own_read}
+use Rattle.cuts.proofs.Read.{size_of, Long, Begun, Whole, Kind, kind_of, few_read, long_read, begun_read, own_read}
 use Rattle.cuts.proofs.Read.Kind.{few, long, begun, whole}
 use Rattle.cuts.proofs.Received.{Judges, same_payload, whole_judges}
 use Rattle.holding.specs.Pending.{room_bytes, needed_of, is_short}

@@ -4,8 +4,7 @@
 use mathlib.Core.Path.{◌≡◌, refl}
 use mathlib.Core.Bool.{Bool, true, false}
 use mathlib.Core.List.{List, [], ◌∷◌, ◌++◌}
-use Prim.Native.Nat.{ℕ, zero, suc, ◌+◌, ◌-◌, ◌<◌}
-use native.Mathlib.Omega.{arith}
+use Prim.Native.Nat.{ℕ, zero, suc, ◌+◌, ◌<◌}
 use native.Mathlib.Nat.{le_of_suc-le-suc, not-suc-le-zero}
 use lib.ListN.{length, get_or, take, drop, replicate}
 use lib.Ieee.{add, sub, div, lt, ne, of_int, to_bits}
@@ -25,7 +24,7 @@ use Rattle.ddp.specs.Untagged.{untagged_in, untagged_of, next_msn}
 use Rattle.ddp.specs.Place.{fits, placed}
 use Rattle.rdmap.specs.Message.{send_verdict, read_verdict, terminate_verdict, message_verdict, queue_of}
 use Rattle.rdmap.specs.Read.{queued_reads}
-use Rattle.rdmap.specs.Stream.{opened, closed, posted_on, sent_on, opened_stream, state_of}
+use Rattle.rdmap.specs.Stream.{opened, closed, posted_on, state_of}
 use Rattle.domain.specs.Domain.{domain_opened, domain_closed, domain_posted, domain_registered, domain_dropped, domain_received, domain_received_bytes, domain_state}
 use Rattle.arrival.specs.Parts.{parts_applied, placed_from, applied_bytes, parts_received, parts_received_bytes}
 use Rattle.overlap.specs.Sharing.{shares, window_shares, windows_share, buffers_share, streams_share}

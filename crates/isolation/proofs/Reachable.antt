@@ -39,7 +39,7 @@ use Rattle.memory.specs.declared.window.Found.TheVariants.{Slot, Foreign, Missin
 use Rattle.memory.specs.declared.window.Span.{Span}
 use Rattle.memory.specs.declared.window.Span.TheVariants.{Inside, Wrap, Outside}
 use Rattle.ddp.proofs.Inside.{tagged_in_lem}
-use Rattle.memory.proofs.Inside.{Lies, WindowIn, WindowsIn, BuffersIn, registered_in_lem, dropped_in_lem, posted_in, popped_in}
+use Rattle.memory.proofs.Inside.{Lies, WindowsIn, BuffersIn, registered_in_lem, dropped_in_lem, posted_in, popped_in}
 use Rattle.rdmap.specs.Message.{opcode_of, controlled, after, may_write, may_read, write_verdict, fits_queue, takes_stag, invalidated, send_verdict, source_in, source_of, read_verdict, terminate_verdict, message_verdict, stag_named, queue_of, untagged_verdict}
 use Rattle.rdmap.specs.Read.{request_at}
 use Rattle.rdmap.specs.Refusal.{no_write_right, no_read_right, malformed}

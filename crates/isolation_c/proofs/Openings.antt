@@ -14,7 +14,7 @@ use Rattle.calls.specs.Call.{Called, called, called_store}
 use Rattle.block.specs.Device.{rnic_at}
 use Rattle.isolation.specs.Book.{Opening}
 use Rattle.isolation.proofs.Calls.{accepted, Opened as WorldOpened}
-use Rattle.isolation_c.specs.Request.{opening_numbers, says_done}
+use Rattle.isolation_c.specs.Request.{says_done}
 use Rattle.isolation_c.proofs.Calls.{Host, Opened, world_of}
 
 done-same : (x : Outcome) → says_done (outcome_words x) ≡ accepted x

@@ -1,11 +1,10 @@
 -- The device (the paper's box): what each call does. It is the owner's step of specs/Domain.antt of the crate `domain`, lifted: the owner's entry and bytes taken out, the step, and both put back.
-use Rattle.std.specs.Prelude.{ℕ, ◌+◌, ◌-◌, ◌/◌, ◌%◌, Bool, true, false, List, [], ◌∷◌, length, get_or, set, leb, eqb}
+use Rattle.std.specs.Prelude.{ℕ, ◌-◌, ◌/◌, ◌%◌, Bool, false, List, [], ◌∷◌, length, get_or, set, leb, eqb}
 use Rattle.std.specs.Float.{nan}
 use borrow.Rule.Slice.PartMut.{mid_of, put_mid}
 use Rattle.wire.specs.Wire.{pick, both}
 use Rattle.memory.specs.Part.{part_fits}
 use Rattle.memory.specs.Window.{live_count, lowest_free}
-use Rattle.memory.specs.declared.part.Outcome.{Outcome}
 use Rattle.memory.specs.declared.part.Outcome.TheVariants.{Done, Refused as NotDone}
 use Rattle.rdmap.specs.declared.stream.CloseAnswer.TheVariants.{Refused as NotClosed}
 use Rattle.rdmap.specs.declared.stream.TakeAnswer.TheVariants.{Refused as NotTaken}

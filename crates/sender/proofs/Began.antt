@@ -1,5 +1,5 @@
 -- What a message that was begun is: the record of what it was begun with, each number in its range, and nothing of it written.
-use Rattle.std.proofs.Common.{◌≡◌, ℕ, ◌+◌, ◌-◌, ◌≤◌, Bool, true, false, not, leb, refl, ap, arith, ltb-false, leb-true}
+use Rattle.std.proofs.Common.{◌≡◌, ℕ, ◌+◌, ◌≤◌, Bool, true, false, not, leb, refl, ap, arith, ltb-false, leb-true}
 use Rattle.wire.specs.Wire.{pick, both}
 use Rattle.mpa.specs.Fpdu.{max_ulpdu}
 use Rattle.memory.specs.Window.{wraps}

@@ -1,5 +1,5 @@
 -- A message in range is read back from its words, and so is the one after a segment.
-use Rattle.std.proofs.Common.{◌≡◌, ℕ, ◌%◌, ◌<◌, Bool, true, false, List, sym, refl, ap, ◌∙◌, arith}
+use Rattle.std.proofs.Common.{◌≡◌, ℕ, ◌%◌, ◌<◌, Bool, true, false, refl, arith}
 use Rattle.sender.specs.declared.Message.{Message}
 use Rattle.sender.specs.declared.Segment.{Segment}
 use Rattle.sender.specs.declared.Segment.TheVariants.{Wrote, Done, Refused}

@@ -1,5 +1,5 @@
 -- What the writer's steps make together: a header and a payload put after it are one segment, and an answer says what is left of the message and of the slice.
-use Rattle.std.proofs.Common.{◌≡◌, ℕ, ◌+◌, ◌-◌, ◌%◌, ◌≤◌, Bool, true, false, not, leb, List, length, sym, refl, ap, ◌∙◌, ap₂, zero-le, arith, le-ltb, eq-eqb, le-leb, leb-true}
+use Rattle.std.proofs.Common.{◌≡◌, ℕ, ◌+◌, ◌%◌, ◌≤◌, Bool, true, false, not, leb, List, length, sym, refl, ap, ◌∙◌, ap₂, zero-le, arith, le-ltb, eq-eqb, le-leb, leb-true}
 use borrow.Author.Tests.{not-true}
 use Rattle.wire.specs.Wire.{pick, both, part, put}
 use Rattle.wire.proofs.Laws.{both_true, put-put}

@@ -1,5 +1,5 @@
 -- How a message is cut into payloads, by the largest ULPDU and the size of the header before each payload: every payload is filled but the last.
-use Rattle.std.specs.Prelude.{ℕ, zero, suc, ◌+◌, ◌-◌, Bool, List, [], ◌∷◌, nat_le}
+use Rattle.std.specs.Prelude.{ℕ, zero, suc, ◌-◌, Bool, List, [], ◌∷◌, nat_le}
 use Rattle.wire.specs.Wire.{pick}
 
 -- "each filled but the last": what is left goes into the room of one payload, or fills it

@@ -2,7 +2,6 @@
 use mathlib.Core.Path.{ap₂, ◌∙◌}
 use Rattle.overlap.specs.Sharing.{either}
 use Rattle.domain.specs.Sharing.{domain_shares}
-use borrow.Author.Rules.{rules}
 use Rattle.domain.proofs.domain_shares.Goals as goal
 
 pub returns : goal.returns

@@ -2,7 +2,6 @@
 use mathlib.Core.Path.{sym, ap, ◌∙◌}
 use Rattle.domain.specs.Domain.{meter_by}
 use Rattle.arrival.specs.declared.Answer.{Answer}
-use borrow.Author.Rules.{rules}
 use Rattle.domain.proofs.meter_after.Goals as goal
 
 pub returns-in-Taken : goal.returns-in-Taken

@@ -1,5 +1,4 @@
 -- `new_domain` meets its contract: each stream is what `closed_stream` gives, and the meter what `new_meter` does.
-use borrow.Author.Rules.{rules}
 use Rattle.domain.proofs.new_domain.Goals as goal
 
 pub returns : goal.returns

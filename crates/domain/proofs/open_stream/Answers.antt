@@ -1,7 +1,6 @@
 -- `open_stream` meets its contract: the test on the slot picks the case of `domain_opened`, and the stream of the slot is what `Stream::open` gives.
 use borrow.Author.Tests.{le-leb, lt-leb}
 use Rattle.domain.specs.Domain.{domain_opened}
-use borrow.Author.Rules.{rules}
 use Rattle.domain.proofs.open_stream.Goals as goal
 
 pub returns-then-slot-le3 : goal.returns-then-slot-le3

@@ -2,7 +2,6 @@
 -- then the domain's own entries are asked.
 use borrow.Author.Tests.{le-leb, lt-leb}
 use Rattle.domain.specs.Domain.{domain_posted}
-use borrow.Author.Rules.{rules}
 use Rattle.domain.proofs.post.Goals as goal
 
 pub returns-then-slot-le3 : goal.returns-then-slot-le3

@@ -5,7 +5,6 @@ use borrow.Author.Tests.{le-leb, lt-leb}
 use Rattle.ddp.specs.Segment.{segment_read}
 use Rattle.domain.specs.Domain.{stream_at, metered_of, domain_received, domain_received_bytes, lifted}
 use Rattle.arrival.specs.declared.parts.PartsReceived.{PartsReceived}
-use borrow.Author.Rules.{rules}
 use Rattle.domain.proofs.receive.Goals as goal
 
 pub returns-then-slot-le3 : goal.returns-then-slot-le3

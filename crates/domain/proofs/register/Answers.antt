@@ -1,12 +1,8 @@
 -- `register` meets its contract: the windows are what the `register` of the windows gives, and for a window with the write right the
 -- domain's own entries are asked then.
-use mathlib.Core.Path.{sym, ap, ◌∙◌}
-use mathlib.Core.Bool.{Bool}
-use Rattle.wire.specs.Wire.{both}
+use mathlib.Core.Path.{sym, ◌∙◌}
 use Rattle.domain.specs.Domain.{domain_registered}
-use Rattle.domain.specs.Sharing.{lastly, domain_shares}
 use Rattle.domain.proofs.Unshared.{none-shared}
-use borrow.Author.Rules.{rules}
 use Rattle.domain.proofs.register.Goals as goal
 
 pub returns-then-has_write : goal.returns-then-has_write

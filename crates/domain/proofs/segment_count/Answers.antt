@@ -4,7 +4,6 @@ use mathlib.Core.Path.{sym, ap, ◌∙◌}
 use borrow.Author.Tests.{eq-eqb, ne_eqb}
 use Rattle.wire.specs.Wire.{pick}
 use Rattle.domain.specs.Domain.{segment_count}
-use borrow.Author.Rules.{rules}
 use Rattle.domain.proofs.segment_count.Goals as goal
 
 pub returns-then-header-eq0 : goal.returns-then-header-eq0

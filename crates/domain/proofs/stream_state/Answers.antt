@@ -1,7 +1,6 @@
 -- `stream_state` meets its contract: the test on the slot picks the case of `domain_state`, and the answer is the stream's.
 use borrow.Author.Tests.{le-leb, lt-leb}
 use Rattle.domain.specs.Domain.{domain_state}
-use borrow.Author.Rules.{rules}
 use Rattle.domain.proofs.stream_state.Goals as goal
 
 pub returns-then-slot-le3 : goal.returns-then-slot-le3

@@ -1,7 +1,6 @@
 -- `take` meets its contract: the test on the slot picks the case of `domain_taken`, and the stream of the slot is what `Stream::take` gives.
 use borrow.Author.Tests.{le-leb, lt-leb}
 use Rattle.domain.specs.Domain.{domain_taken}
-use borrow.Author.Rules.{rules}
 use Rattle.domain.proofs.take.Goals as goal
 
 pub returns-then-slot-le3 : goal.returns-then-slot-le3

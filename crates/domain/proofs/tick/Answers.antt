@@ -1,5 +1,4 @@
 -- `tick` meets its contract: the meter is what its own tick gives.
-use borrow.Author.Rules.{rules}
 use Rattle.domain.proofs.tick.Goals as goal
 
 pub returns : goal.returns

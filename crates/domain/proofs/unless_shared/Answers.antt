@@ -1,6 +1,5 @@
 -- `unless_shared` meets its contract: by the outcome, and whether bytes are shared.
 use Rattle.domain.specs.Sharing.{lastly}
-use borrow.Author.Rules.{rules}
 use Rattle.domain.proofs.unless_shared.Goals as goal
 
 pub returns-then-shared : goal.returns-then-shared

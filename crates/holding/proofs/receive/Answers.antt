@@ -1,6 +1,5 @@
 -- `receive` meets its contract: 16 by the stream of the slot, and else the domain's receive; past the last slot there is no stream.
 use mathlib.Core.Path.{sym, ◌∙◌}
-use borrow.Author.Rules.{rules}
 use borrow.Author.Tests.{le-leb, lt-leb}
 use Rattle.domain.specs.Domain.{domain_received, domain_received_bytes}
 use Rattle.holding.specs.Offer.{domain_receives, domain_receives_bytes}

@@ -1,7 +1,6 @@
 -- `ask` meets its contract, by the name.
 use mathlib.Core.Path.{ap, subst, ◌∙◌}
 use lib.ListN.{length}
-use borrow.Author.Rules.{rules}
 use Rattle.wire.specs.Wire.{same}
 use Rattle.command.specs.Args.{line_words, word_of}
 use Rattle.command.proofs.Read.{read_as}

@@ -1,7 +1,6 @@
 -- `ask_held` meets its contract: two words, and the second is the number of a stream.
 use mathlib.Core.Path.{sym, ap}
 use native.Mathlib.Omega.{arith}
-use borrow.Author.Rules.{rules}
 use borrow.Author.Tests.{le-leb, lt-leb}
 use Rattle.script.specs.Number.{number_of}
 use Rattle.script.specs.declared.number.Number.TheVariants.{Value, Bad}

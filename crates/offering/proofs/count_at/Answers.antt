@@ -1,7 +1,6 @@
 -- `count_at` meets its contract, by how many words the line has and what the word is read as.
 use mathlib.Core.Path.{sym}
 use native.Mathlib.Omega.{arith}
-use borrow.Author.Rules.{rules}
 use borrow.Author.Tests.{le-leb, lt-leb}
 use Rattle.script.specs.Number.{number_of}
 use Rattle.script.specs.declared.number.Number.TheVariants.{Value, Bad}

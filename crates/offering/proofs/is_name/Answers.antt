@@ -1,7 +1,6 @@
 -- `is_name` meets its contract: each answer goes by the comparisons, which are those of the definition.
 use mathlib.Core.Path.{sym, ◌∙◌}
 use Rattle.offering.specs.Offering.{is_offering}
-use borrow.Author.Rules.{rules}
 use Rattle.offering.proofs.is_name.Goals as goal
 
 pub returns-then-same : goal.returns-then-same

@@ -2,7 +2,6 @@
 use mathlib.Core.Path.{ap, ◌∙◌}
 use Rattle.command.specs.Args.{word_of}
 use Rattle.offering.specs.Offering.{is_offering}
-use borrow.Author.Rules.{rules}
 use Rattle.offering.proofs.is_offering.Goals as goal
 
 pub returns : goal.returns

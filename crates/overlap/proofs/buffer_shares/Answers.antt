@@ -1,5 +1,4 @@
 -- `buffer_shares` meets its contract: a buffer that does not wait shares nothing.
-use borrow.Author.Rules.{rules}
 use Rattle.overlap.proofs.buffer_shares.Goals as goal
 
 pub returns-then-waits : goal.returns-then-waits

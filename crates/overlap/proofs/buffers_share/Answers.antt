@@ -1,11 +1,10 @@
 -- `buffers_share` meets its contract. The invariant: what is known so far is that of the waiting buffers from i on.
-use Prim.Native.Nat.{ℕ, ◌+◌, ◌-◌, ◌≤◌}
+use Prim.Native.Nat.{ℕ, ◌+◌, ◌-◌}
 use mathlib.Core.Path.{◌≡◌, sym, ap, ap₂, ◌∙◌}
 use native.Mathlib.Omega.{arith}
-use lib.ListN.{length, take, drop, length-map}
+use lib.ListN.{length, take, drop}
 use Rattle.overlap.specs.Sharing.{either, buffers_share}
 use Rattle.overlap.proofs.Entries.{buffers-none, buffers-next}
-use borrow.Author.Rules.{rules}
 use Rattle.overlap.proofs.buffers_share.Goals as goal
 
 pub loop-i-init : goal.loop-i-init

@@ -1,11 +1,8 @@
 -- `buffers_share` meets its contract. The invariant: what is known so far is that of the waiting buffers from i on.
-use Prim.Native.Nat.{ℕ, ◌+◌, ◌-◌, ◌≤◌}
-use mathlib.Core.Path.{◌≡◌, sym, ap, ap₂, ◌∙◌}
-use native.Mathlib.Omega.{arith}
-use lib.ListN.{length, take, drop, length-map}
-use Rattle.overlap.specs.Sharing.{either, buffers_share}
-use Rattle.overlap.proofs.Entries.{buffers-none, buffers-next}
-use borrow.Author.Rules.{rules}
+use Prim.Native.Nat.{◌≤◌}
+use mathlib.Core.Path.{◌≡◌}
+use lib.ListN.{take, drop}
+use Rattle.overlap.specs.Sharing.{buffers_share}
 use Rattle.overlap.proofs.buffers_share.Given as goal
 
 abbrev pub invariant-loop-i : goal.invariant-loop-i

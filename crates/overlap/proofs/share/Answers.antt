@@ -6,7 +6,6 @@ use lib.Dec.{ltb}
 use Rattle.wire.specs.Wire.{both}
 use Rattle.memory.proofs.Laws.{ltb-same}
 use Rattle.overlap.specs.Sharing.{shares}
-use borrow.Author.Rules.{rules}
 use borrow.Author.Tests.{lt-ltb, le-ltb}
 use native.Mathlib.Omega.{arith}
 use Rattle.overlap.proofs.share.Goals as goal

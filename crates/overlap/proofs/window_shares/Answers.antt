@@ -1,7 +1,5 @@
 -- `window_shares` meets its contract: a dead window and one without the write right share nothing.
-use mathlib.Core.Path.{sym, ◌∙◌}
 use Rattle.overlap.specs.Sharing.{window_shares}
-use borrow.Author.Rules.{rules}
 use borrow.Author.Tests.{eq-eqb, ne_eqb}
 use Rattle.overlap.proofs.window_shares.Goals as goal
 

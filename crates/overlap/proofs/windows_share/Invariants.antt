@@ -1,12 +1,8 @@
 -- `windows_share` meets its contract. The invariant: what is known so far is that of the windows from i on.
-use Prim.Native.Nat.{ℕ, ◌+◌, ◌-◌, ◌≤◌}
-use mathlib.Core.Path.{◌≡◌, sym, ap, ap₂, ◌∙◌}
-use mathlib.Core.List.{List}
-use native.Mathlib.Omega.{arith}
-use lib.ListN.{length, drop}
-use Rattle.overlap.specs.Sharing.{either, windows_share}
-use Rattle.overlap.proofs.Entries.{windows_none, windows_next}
-use borrow.Author.Rules.{rules}
+use Prim.Native.Nat.{◌≤◌}
+use mathlib.Core.Path.{◌≡◌}
+use lib.ListN.{drop}
+use Rattle.overlap.specs.Sharing.{windows_share}
 use Rattle.overlap.proofs.windows_share.Given as goal
 
 abbrev pub invariant-loop-i : goal.invariant-loop-i

@@ -1,5 +1,4 @@
 -- `then_part` meets its contract: the place after two puts lies within the text.
-use borrow.Author.Rules.{rules}
 use Rattle.command.proofs.Within.{put_twice}
 use Rattle.report.proofs.then_part.Goals as goal
 

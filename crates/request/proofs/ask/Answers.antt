@@ -1,12 +1,9 @@
 -- `ask` meets its contract: a silent line, a command that is answered by a text, or what `ask_device` says of its words.
-use Prim.Native.Nat.{ℕ}
 use mathlib.Core.Bool.{false}
-use mathlib.Core.List.{List}
-use mathlib.Core.Path.{◌≡◌, refl, sym, ap, subst, ◌∙◌}
+use mathlib.Core.Path.{◌≡◌, sym, ap, subst, ◌∙◌}
 use native.Mathlib.Omega.{arith}
-use borrow.Author.Rules.{rules}
 use lib.ListN.{length}
-use Rattle.command.specs.Args.{line_words, word_of}
+use Rattle.command.specs.Args.{word_of}
 use Rattle.command.specs.Frames.{is_frame}
 use Rattle.command.proofs.Listed.{words_count}
 use Rattle.command.proofs.Read.{read_as}

@@ -1,7 +1,6 @@
 -- `ask_device` meets its contract, by the name: the bytes shown, the bytes put, a call, or `bad`.
-use mathlib.Core.Path.{◌≡◌, ap}
+use mathlib.Core.Path.{ap}
 use native.Mathlib.Omega.{arith}
-use borrow.Author.Rules.{rules}
 use lib.ListN.{length}
 use Rattle.wire.specs.Wire.{same}
 use Rattle.command.specs.Args.{words_at}

@@ -6,7 +6,6 @@ use mathlib.Core.List.{List, [], ◌∷◌}
 use native.Mathlib.Omega.{arith}
 use lib.Dec.{eqb}
 use lib.ListN.{length, get_or}
-use borrow.Author.Rules.{rules}
 use Rattle.request.proofs.is_comment.Goals as goal
 
 none : (l : List ℕ) → length l ≡ 0 → false ≡ eqb (get_or l 0 0) 35

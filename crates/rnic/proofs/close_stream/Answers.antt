@@ -1,7 +1,6 @@
 -- `close_stream` meets its contract: the test on the number picks the case of `rnic_closed`, and the owner's entry is what the domain's call gives.
 use borrow.Author.Tests.{le-leb, lt-leb}
 use Rattle.rnic.specs.Rnic.{rnic_closed}
-use borrow.Author.Rules.{rules}
 use Rattle.rnic.proofs.close_stream.Goals as goal
 
 pub returns-then-stream-le15 : goal.returns-then-stream-le15

@@ -1,7 +1,6 @@
 -- `drop_window` meets its contract: the test on the number picks the case of `rnic_dropped`, and the owner's entry is what the domain's call gives.
 use borrow.Author.Tests.{le-leb, lt-leb}
 use Rattle.rnic.specs.Rnic.{rnic_dropped}
-use borrow.Author.Rules.{rules}
 use Rattle.rnic.proofs.drop_window.Goals as goal
 
 pub returns-then-window-le63 : goal.returns-then-window-le63

@@ -1,5 +1,4 @@
 -- `length_in_range` meets its contract: a length is 0 or at least 1.
-use mathlib.Core.Bool.{Bool}
 use native.Mathlib.Omega.{arith}
 use borrow.Author.Tests.{le-leb, lt-leb}
 use Rattle.rnic.proofs.length_in_range.Goals as goal

@@ -1,7 +1,6 @@
 -- `live_count` meets its contract: the test on the number picks the case of `rnic_live`, and the answer is that of the domain's windows.
 use borrow.Author.Tests.{le-leb, lt-leb}
 use Rattle.rnic.specs.Rnic.{rnic_live}
-use borrow.Author.Rules.{rules}
 use Rattle.rnic.proofs.live_count.Goals as goal
 
 pub returns-then-number-le3 : goal.returns-then-number-le3

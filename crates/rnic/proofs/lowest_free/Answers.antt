@@ -1,7 +1,6 @@
 -- `lowest_free` meets its contract: the test on the number picks the case of `rnic_free`, and the answer is that of the domain's windows.
 use borrow.Author.Tests.{le-leb, lt-leb}
 use Rattle.rnic.specs.Rnic.{rnic_free}
-use borrow.Author.Rules.{rules}
 use Rattle.rnic.proofs.lowest_free.Goals as goal
 
 pub returns-then-number-le3 : goal.returns-then-number-le3

@@ -1,5 +1,4 @@
 -- `new_rnic` meets its contract: each entry is what `new_domain` gives.
-use borrow.Author.Rules.{rules}
 use Rattle.rnic.proofs.new_rnic.Goals as goal
 
 pub returns : goal.returns

@@ -7,7 +7,6 @@ use borrow.Author.Tests.{leb-true}
 use Rattle.rnic.specs.Rnic.{opened_rnic}
 use Rattle.wire.proofs.Laws.{both_true}
 use Rattle.rnic.proofs.Order.{Ordered, ordered}
-use borrow.Author.Rules.{rules}
 use Rattle.rnic.proofs.open.Goals as goal
 
 pub overflow_cast-len : goal.overflow_cast-len

@@ -1,7 +1,6 @@
 -- `post` meets its contract: the test on the number picks the case of `rnic_posted`, and the owner's entry is what the domain's call gives.
 use borrow.Author.Tests.{le-leb, lt-leb}
 use Rattle.rnic.specs.Rnic.{rnic_posted}
-use borrow.Author.Rules.{rules}
 use Rattle.rnic.proofs.post.Goals as goal
 
 pub returns-then-stream-le15 : goal.returns-then-stream-le15

@@ -1,7 +1,6 @@
 -- `reading` meets its contract: the test on the number picks the case of `rnic_reading`, and the answer is the domain's.
 use borrow.Author.Tests.{le-leb, lt-leb}
 use Rattle.rnic.specs.Rnic.{rnic_reading}
-use borrow.Author.Rules.{rules}
 use Rattle.rnic.proofs.reading.Goals as goal
 
 pub returns-then-number-le3 : goal.returns-then-number-le3

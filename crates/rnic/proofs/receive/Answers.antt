@@ -1,7 +1,6 @@
 -- `receive` meets its contract: the tests on the stream's number and on the store's length pick the case, and the owner's part does the rest.
 use borrow.Author.Tests.{le-leb, lt-leb, eq-eqb, ne_eqb}
 use Rattle.rnic.specs.Rnic.{rnic_received, rnic_received_store}
-use borrow.Author.Rules.{rules}
 use Rattle.rnic.proofs.receive.Goals as goal
 
 pub returns-then-store-b : goal.returns-then-store-b

@@ -2,7 +2,6 @@
 use mathlib.Core.Path.{sym, ◌∙◌}
 use Rattle.memory.proofs.Laws.{fits-ends}
 use Rattle.rnic.specs.Rnic.{received_owned, received_owned_store}
-use borrow.Author.Rules.{rules}
 use Rattle.rnic.proofs.receive_owned.Goals as goal
 
 pub slice_bounds-receive-count : goal.slice_bounds-receive-count

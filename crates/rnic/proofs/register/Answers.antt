@@ -1,7 +1,6 @@
 -- `register` meets its contract: the test on the number picks the case of `rnic_registered`, and the owner's entry is what the domain's call gives.
 use borrow.Author.Tests.{le-leb, lt-leb}
 use Rattle.rnic.specs.Rnic.{rnic_registered}
-use borrow.Author.Rules.{rules}
 use Rattle.rnic.proofs.register.Goals as goal
 
 pub returns-then-window-le63 : goal.returns-then-window-le63

@@ -1,7 +1,6 @@
 -- `stream_state` meets its contract: the test on the number picks the case of `rnic_state`, and the answer is the owner's.
 use borrow.Author.Tests.{le-leb, lt-leb}
 use Rattle.rnic.specs.Rnic.{rnic_state}
-use borrow.Author.Rules.{rules}
 use Rattle.rnic.proofs.stream_state.Goals as goal
 
 pub returns-then-stream-le15 : goal.returns-then-stream-le15

@@ -1,7 +1,6 @@
 -- `tick` meets its contract: the test on the number picks the case of `rnic_ticked`, and the domain's entry is what its own tick gives.
 use borrow.Author.Tests.{le-leb, lt-leb}
 use Rattle.rnic.specs.Rnic.{rnic_ticked}
-use borrow.Author.Rules.{rules}
 use Rattle.rnic.proofs.tick.Goals as goal
 
 pub returns-then-number-le3 : goal.returns-then-number-le3

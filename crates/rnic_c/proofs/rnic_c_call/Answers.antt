@@ -4,8 +4,7 @@ use Rattle.calls.specs.Call.{called, called_store}
 use Rattle.calls.specs.Words.{outcome_words, close_words, take_words, count_words, reading_words, state_words}
 use borrow.Author.Tests.{ne_eqb}
 use lib.ListN.{length}
-use mathlib.Core.Path.{◌≡◌, refl, sym, ap, ◌∙◌}
-use borrow.Author.Rules.{rules}
+use mathlib.Core.Path.{sym, ap, ◌∙◌}
 use Rattle.rnic_c.proofs.rnic_c_call.Goals as goal
 
 pub returns-in-0 : goal.returns-in-0

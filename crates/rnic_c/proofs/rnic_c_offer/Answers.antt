@@ -1,5 +1,4 @@
 -- `rnic_c_offer` meets its contract: it is `offer`.
-use borrow.Author.Rules.{rules}
 use Rattle.rnic_c.proofs.rnic_c_offer.Goals as goal
 
 pub returns : goal.returns

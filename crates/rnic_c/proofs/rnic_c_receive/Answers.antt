@@ -1,5 +1,4 @@
 -- `rnic_c_receive` meets its contract: it is `receive`.
-use borrow.Author.Rules.{rules}
 use Rattle.rnic_c.proofs.rnic_c_receive.Goals as goal
 
 pub returns : goal.returns

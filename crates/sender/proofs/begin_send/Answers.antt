@@ -1,5 +1,5 @@
 -- `begin_send` meets its contract: the tests pick the case of `send_begun`, and say that each number has room in its field.
-use Rattle.std.proofs.Common.{sym, ◌∙◌, arith, rules, le-leb}
+use Rattle.std.proofs.Common.{sym, ◌∙◌, arith, le-leb}
 use borrow.Author.Tests.{lt-leb}
 use Rattle.sender.specs.Message.{send_begun}
 use Rattle.sender.proofs.Writes.{send-true}

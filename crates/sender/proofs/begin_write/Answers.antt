@@ -1,5 +1,5 @@
 -- `begin_write` meets its contract: the tests pick the case of `write_begun`, and say that each number has room in its field.
-use Rattle.std.proofs.Common.{sym, ◌∙◌, arith, rules, le-leb}
+use Rattle.std.proofs.Common.{sym, ◌∙◌, arith, le-leb}
 use borrow.Author.Tests.{lt-leb}
 use Rattle.sender.specs.Message.{write_begun}
 use Rattle.sender.proofs.Writes.{write-true}

@@ -1,5 +1,5 @@
 -- `is_last` meets its contract: `ends_in` of the room and of what is left.
-use Rattle.std.proofs.Common.{ℕ, ◌-◌, ap, ◌∙◌, rules}
+use Rattle.std.proofs.Common.{ℕ, ◌-◌, ap, ◌∙◌}
 use Rattle.sender.specs.Cut.{ends_in}
 use Rattle.sender.proofs.is_last.Goals as goal
 

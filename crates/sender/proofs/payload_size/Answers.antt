@@ -1,5 +1,5 @@
 -- `payload_size` meets its contract: `piece_of` of the room and of what is left, which it does not pass.
-use Rattle.std.proofs.Common.{ℕ, ◌-◌, ap, ◌∙◌, arith, rules}
+use Rattle.std.proofs.Common.{ℕ, ◌-◌, ap, ◌∙◌, arith}
 use Rattle.sender.specs.Cut.{piece_of}
 use Rattle.sender.proofs.Cuts.{piece_left}
 use Rattle.sender.proofs.payload_size.Goals as goal

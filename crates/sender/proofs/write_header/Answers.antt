@@ -1,5 +1,5 @@
 -- `write_header` meets its contract: either writer of `ddp` has room, and its header has the fields of `header_bytes`.
-use Rattle.std.proofs.Common.{◌∙◌, rules}
+use Rattle.std.proofs.Common.{◌∙◌}
 use Rattle.sender.proofs.Writes.{tagged_header, untagged_header}
 use Rattle.sender.proofs.write_header.Goals as goal
 

@@ -1,5 +1,5 @@
 -- `write_segment` meets its contract: the payload is put where the header ends.
-use Rattle.std.proofs.Common.{◌≡◌, ℕ, ◌+◌, ◌-◌, List, ap, ◌∙◌, arith, rules}
+use Rattle.std.proofs.Common.{◌≡◌, ℕ, ◌+◌, ◌-◌, List, ap, ◌∙◌, arith}
 use Rattle.wire.specs.Wire.{part, put}
 use Rattle.sender.proofs.Writes.{segment_put}
 use Rattle.sender.proofs.write_segment.Goals as goal

@@ -1,8 +1,8 @@
 -- `ask_order` meets its contract: a message's bytes are those of its word of hex.
-use mathlib.Core.Path.{refl, sym, ap, ◌∙◌}
+use mathlib.Core.Path.{sym, ap, ◌∙◌}
 use lib.ListN.{length, take}
 use Rattle.script.specs.Hex.{pairs, decoded_of}
-use Rattle.command.proofs.Read.{counted, other_count, read_as, is_hex_lem, no_hex, front_decoded}
+use Rattle.command.proofs.Read.{read_as, is_hex_lem, no_hex, front_decoded}
 use Rattle.wire.specs.Wire.{same}
 use Rattle.sending.specs.declared.Order.{Order}
 use Rattle.sending.specs.Sending.{message_name, ordered, order_of, bytes_of}

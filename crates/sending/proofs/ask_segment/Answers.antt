@@ -1,9 +1,7 @@
 -- `ask_segment` meets its contract: two words, and the second is a number.
-use mathlib.Core.Path.{refl, sym, ap, ◌∙◌}
-use Rattle.command.proofs.Read.{counted, other_count, read_as, is_hex_lem, no_hex, front_decoded}
+use Rattle.command.proofs.Read.{counted, other_count, read_as}
 use Rattle.script.specs.Number.{number_of}
 use Rattle.sending.specs.Sending.{ask_segment}
-use borrow.Author.Rules.{rules}
 use Rattle.sending.proofs.ask_segment.Goals as goal
 
 pub returns-then-words-ne2 : goal.returns-then-words-ne2

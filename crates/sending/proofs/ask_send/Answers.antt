@@ -1,8 +1,7 @@
 -- `ask_send` meets its contract: the words are counted, and each is read, as the definition has it.
-use mathlib.Core.Path.{refl, sym, ap, ◌∙◌}
-use Rattle.command.proofs.Read.{counted, other_count, read_as, is_hex_lem, no_hex, front_decoded}
+use mathlib.Core.Path.{◌∙◌}
+use Rattle.command.proofs.Read.{counted, other_count}
 use Rattle.sending.specs.Sending.{ask_send, send_of}
-use borrow.Author.Rules.{rules}
 use Rattle.sending.proofs.ask_send.Goals as goal
 
 pub returns-then-words-ne7 : goal.returns-then-words-ne7

@@ -1,7 +1,6 @@
 -- `begin` meets its contract: bytes that fit are kept, and the words of what was begun.
 use lib.ListN.{length}
 use borrow.Author.Tests.{le-leb, lt-leb}
-use borrow.Author.Rules.{rules}
 use Rattle.sending.proofs.begin.Goals as goal
 
 pub returns-then-held-bytes : goal.returns-then-held-bytes

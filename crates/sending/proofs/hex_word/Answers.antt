@@ -1,9 +1,7 @@
 -- `hex_word` meets its contract, by the kind of the message.
-use mathlib.Core.Path.{refl, sym, ap, ◌∙◌}
-use Rattle.command.proofs.Read.{counted, other_count, read_as, is_hex_lem, no_hex, front_decoded}
+use Rattle.command.proofs.Read.{read_as}
 use Rattle.wire.specs.Wire.{same}
 use Rattle.sending.specs.Sending.{write_name, hex_word}
-use borrow.Author.Rules.{rules}
 use Rattle.sending.proofs.hex_word.Goals as goal
 
 pub returns-then-same : goal.returns-then-same

@@ -1,7 +1,6 @@
 -- `hold` meets its contract: the bytes of a message that was begun are copied.
-use mathlib.Core.Path.{refl, sym, ap, ◌∙◌}
+use mathlib.Core.Path.{sym, ap, ◌∙◌}
 use Rattle.sending.specs.Sending.{held_begun}
-use borrow.Author.Rules.{rules}
 use Rattle.sending.proofs.hold.Goals as goal
 
 pub returns-in-Ready : goal.returns-in-Ready

@@ -1,7 +1,6 @@
 -- `is_order` meets its contract: each answer goes by the comparisons, which are those of the definition.
-use mathlib.Core.Path.{refl, sym, ap, ◌∙◌}
+use mathlib.Core.Path.{sym, ◌∙◌}
 use Rattle.sending.specs.Sending.{is_order}
-use borrow.Author.Rules.{rules}
 use Rattle.sending.proofs.is_order.Goals as goal
 
 pub returns-then-same : goal.returns-then-same

@@ -1,8 +1,7 @@
 -- `is_sending` meets its contract: it goes by the line's first word.
-use mathlib.Core.Path.{refl, sym, ap, ◌∙◌}
+use mathlib.Core.Path.{ap, ◌∙◌}
 use Rattle.command.specs.Args.{word_of}
 use Rattle.sending.specs.Sending.{is_order}
-use borrow.Author.Rules.{rules}
 use Rattle.sending.proofs.is_sending.Goals as goal
 
 pub returns : goal.returns

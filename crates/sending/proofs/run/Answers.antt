@@ -4,7 +4,7 @@ use mathlib.Core.List.{List}
 use lib.Dec.{leb}
 use lib.ListN.{length}
 use lib.Seq.{length-take-le}
-use mathlib.Core.Path.{refl, sym, ap, ◌∙◌}
+use mathlib.Core.Path.{sym, ap, ◌∙◌}
 use Rattle.wire.specs.Wire.{pick}
 use Rattle.sender.specs.Words.{begun_words}
 use Rattle.sending.specs.declared.Ordered.{Ordered}

@@ -1,7 +1,7 @@
 -- `segment` meets its contract: the bytes that are lent are the first of the buffer's, as many as `room` says.
 use Prim.Native.Nat.{min}
 use lib.ListN.{length}
-use mathlib.Core.Path.{refl, sym, ap, ◌∙◌}
+use mathlib.Core.Path.{sym, ap, ◌∙◌}
 use lib.Seq.{length-take-le}
 use Rattle.sender.specs.declared.Message.{Message}
 use Rattle.sender.specs.Message.{next_of}

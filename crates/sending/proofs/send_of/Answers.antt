@@ -1,8 +1,7 @@
 -- `send_of` meets its contract: each word is a number.
-use mathlib.Core.Path.{refl, sym, ap, ◌∙◌}
+use mathlib.Core.Path.{sym, ap, ◌∙◌}
 use Rattle.sending.specs.declared.Order.TheVariants.{Begin}
 use Rattle.sending.specs.Sending.{send_of}
-use borrow.Author.Rules.{rules}
 use Rattle.sending.proofs.send_of.Goals as goal
 
 pub returns-in_default : goal.returns-in_default

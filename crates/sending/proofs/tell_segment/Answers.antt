@@ -1,5 +1,5 @@
 -- `tell_segment` meets its contract: the bytes that were written are lent.
-use mathlib.Core.Path.{refl, sym, ap, ◌∙◌}
+use mathlib.Core.Path.{sym}
 use lib.Seq.{length-take-le}
 use borrow.Author.Rules.{rules}
 use Rattle.sending.proofs.tell_segment.Goals as goal

@@ -1,8 +1,7 @@
 -- `write_of` meets its contract: each word is a number.
-use mathlib.Core.Path.{refl, sym, ap, ◌∙◌}
+use mathlib.Core.Path.{sym, ap, ◌∙◌}
 use Rattle.sending.specs.declared.Order.TheVariants.{Begin}
 use Rattle.sending.specs.Sending.{write_of}
-use borrow.Author.Rules.{rules}
 use Rattle.sending.proofs.write_of.Goals as goal
 
 pub returns-in_default : goal.returns-in_default

@@ -1,7 +1,6 @@
 -- `is_start` meets its contract: each answer goes by the comparisons, which are those of the definition.
 use mathlib.Core.Path.{sym, ◌∙◌}
 use Rattle.starting.specs.Starting.{is_start}
-use borrow.Author.Rules.{rules}
 use Rattle.starting.proofs.is_start.Goals as goal
 
 pub returns-then-same : goal.returns-then-same

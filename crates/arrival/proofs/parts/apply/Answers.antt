@@ -9,7 +9,6 @@ use Rattle.arrival.specs.declared.Event.{Event}
 use Rattle.arrival.specs.declared.Event.TheVariants.{NoEvent, Terminated}
 use Rattle.arrival.specs.declared.Answer.TheVariants.{Ended}
 use Rattle.arrival.specs.declared.parts.PartsReceived.{PartsReceived}
-use borrow.Author.Rules.{rules}
 use Rattle.arrival.proofs.parts.apply.Goals as goal
 
 abbrev ended : Refusal → Stream → PartsReceived

@@ -1,6 +1,6 @@
 -- `judge_first` meets its contract: each arm has what `segment_read` gives, whose payload lies in the bytes, and the callees
 -- give the verdict and what it makes of the bytes.
-use Prim.Native.Nat.{ℕ, ◌+◌, ◌-◌, ◌≤◌}
+use Prim.Native.Nat.{ℕ, ◌+◌, ◌-◌}
 use mathlib.Core.Path.{◌≡◌, refl, sym, ap, ap₂, ◌∙◌, subst}
 use mathlib.Core.List.{List}
 use native.Mathlib.Omega.{arith}
@@ -20,7 +20,6 @@ use Rattle.arrival.specs.Parts.{applied_bytes, tagged_verdict, parts_judged, par
 use Rattle.arrival.specs.declared.parts.Judged.{Judged}
 use Rattle.arrival.specs.declared.parts.Judged.TheVariants.{Fpdu}
 use Rattle.arrival.proofs.Inside.{lent, inside}
-use borrow.Author.Rules.{rules}
 use Rattle.arrival.proofs.parts.judge_first.Goals as goal
 
 -- what an untagged segment of this payload is judged to be

@@ -13,7 +13,6 @@ use Rattle.rdmap.specs.Message.{queue_of, untagged_verdict}
 use Rattle.rdmap.specs.Sends.{current_buffer}
 use Rattle.rdmap.specs.declared.message.Verdict.{Verdict}
 use Rattle.rdmap.specs.declared.stream.Stream.{Stream}
-use borrow.Author.Rules.{rules}
 use Rattle.arrival.proofs.parts.judge_untagged.Goals as goal
 
 -- what an untagged segment is judged to be by a window, a queue and a buffer

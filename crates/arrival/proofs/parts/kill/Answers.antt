@@ -1,7 +1,6 @@
 -- `kill` meets its contract: each arm is a case of `killed`, and the windows are what `drop_window` gives.
 use mathlib.Core.Path.{sym, ap}
 use Rattle.arrival.specs.Parts.{killed}
-use borrow.Author.Rules.{rules}
 use Rattle.arrival.proofs.parts.kill.Goals as goal
 
 pub returns-in-Stag : goal.returns-in-Stag

@@ -2,7 +2,6 @@
 -- and `apply` and `unchanged` give the stream and the answer.
 use mathlib.Core.Path.{sym, ap, ◌∙◌}
 use Rattle.arrival.specs.Parts.{parts_answered, parts_when, parts_bytes_when, parts_received, parts_received_bytes}
-use borrow.Author.Rules.{rules}
 use Rattle.arrival.proofs.parts.receive_parts.Goals as goal
 
 pub returns-in-Wait : goal.returns-in-Wait

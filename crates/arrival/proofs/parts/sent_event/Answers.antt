@@ -1,7 +1,6 @@
 -- `sent_event` meets its contract: each arm is a case of `sent_event`.
 use mathlib.Core.Path.{sym, ap}
 use Rattle.arrival.specs.Parts.{sent_event}
-use borrow.Author.Rules.{rules}
 use Rattle.arrival.proofs.parts.sent_event.Goals as goal
 
 pub returns-in-NoStag : goal.returns-in-NoStag

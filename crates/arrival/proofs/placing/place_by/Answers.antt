@@ -4,7 +4,6 @@ use mathlib.Core.List.{List}
 use mathlib.Core.Path.{◌≡◌, sym, ap, ◌∙◌}
 use Rattle.arrival.specs.Parts.{applied_bytes}
 use Rattle.rdmap.specs.declared.message.Verdict.{Verdict}
-use borrow.Author.Rules.{rules}
 use Rattle.arrival.proofs.placing.place_by.Goals as goal
 
 -- the bytes of a verdict are those of the same verdict

@@ -1,7 +1,6 @@
 -- `place_from` meets its contract: the test picks the case of `placed_from`, and `place` gives the bytes.
 use borrow.Author.Tests.{le-leb, lt-leb}
 use Rattle.arrival.specs.Parts.{placed_from}
-use borrow.Author.Rules.{rules}
 use Rattle.arrival.proofs.placing.place_from.Goals as goal
 
 pub returns-then-from-at : goal.returns-then-from-at

@@ -6,7 +6,6 @@ use native.Mathlib.Nat.{add-sub_cancel_left}
 use native.Mathlib.Omega.{arith}
 use lib.ListN.{length, replicate, length-replicate}
 use borrow.Rule.Slice.PartMut.{mid_of, put_mid, mid_len}
-use borrow.Author.Rules.{rules}
 use Rattle.wire.proofs.Laws.{put_lent}
 use Rattle.block.proofs.copy.clear.Goals as goal
 

@@ -1,10 +1,8 @@
 -- `clear_all` meets its contract. The loop's invariant: the first i words are 0, and the rest are as they were.
-use Prim.Native.Nat.{ℕ, ◌-◌, ◌≤◌}
-use mathlib.Core.Path.{◌≡◌, refl, ap, ◌∙◌}
-use mathlib.Core.List.{List, [], ◌++◌, append-nil}
-use native.Mathlib.Omega.{arith}
-use lib.ListN.{length, drop, set, replicate, length-set, drop_of_length-le}
-use borrow.Author.Fill.{fill_more}
+use Prim.Native.Nat.{◌-◌, ◌≤◌}
+use mathlib.Core.Path.{◌≡◌}
+use mathlib.Core.List.{◌++◌}
+use lib.ListN.{length, drop, replicate}
 use Rattle.block.proofs.copy.clear_all.Given as goal
 
 abbrev pub invariant-loop-i : goal.invariant-loop-i

@@ -1,5 +1,4 @@
 -- `store_word` meets its contract: one store is one word put.
-use borrow.Author.Rules.{rules}
 use Rattle.block.proofs.Lists.{set-put}
 use Rattle.block.proofs.copy.store_word.Goals as goal
 

@@ -1,5 +1,4 @@
 -- `clear_block` meets its contract: a block of zeros holds the empty device.
-use borrow.Author.Rules.{rules}
 use Rattle.block.proofs.Zeros.{zeros-put, rnic-zeros}
 use Rattle.block.proofs.device.clear_block.Goals as goal
 

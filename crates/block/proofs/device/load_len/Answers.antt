@@ -4,7 +4,6 @@ use mathlib.Core.List.{List}
 use mathlib.Core.Path.{refl, ◌∙◌}
 use native.Mathlib.Omega.{arith}
 use lib.ListN.{get_or}
-use borrow.Author.Rules.{rules}
 use Rattle.block.specs.Device.{loaded_len}
 use Rattle.block.specs.Words.{lower_half}
 use Rattle.block.proofs.Lists.{word_read}

@@ -1,7 +1,6 @@
 -- `load_part` meets its contract: the word that is read is the group.
 use mathlib.Core.Path.{◌∙◌}
 use native.Mathlib.Omega.{arith}
-use borrow.Author.Rules.{rules}
 use Rattle.block.specs.Device.{loaded_part}
 use Rattle.block.specs.Layout.{domain_offset}
 use Rattle.block.specs.Words.{part_in}

@@ -1,5 +1,4 @@
 -- `store_opened` meets its contract: each store changes one group of the device that the cleared block holds.
-use borrow.Author.Rules.{rules}
 use Rattle.block.proofs.Opened.{opened_stored}
 use Rattle.block.proofs.device.store_opened.Goals as goal
 

@@ -2,7 +2,6 @@
 use Prim.Native.Nat.{◌+◌}
 use mathlib.Core.Path.{◌∙◌}
 use native.Mathlib.Omega.{arith}
-use borrow.Author.Rules.{rules}
 use Rattle.block.specs.Layout.{framing_offset}
 use Rattle.block.specs.Stream.{framing_in, loaded_framing}
 use Rattle.block.proofs.Lists.{word_read}

@@ -3,7 +3,6 @@ use Prim.Native.Nat.{◌+◌, ◌-◌}
 use mathlib.Core.Path.{◌≡◌, refl, ◌∙◌}
 use native.Mathlib.Omega.{arith}
 use Rattle.block.specs.Device.{loaded_meter}
-use borrow.Author.Rules.{rules}
 use Rattle.block.proofs.meters.load_meter.Goals as goal
 
 pub returns : goal.returns

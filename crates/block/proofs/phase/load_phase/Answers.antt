@@ -1,7 +1,6 @@
 -- `load_phase` meets its contract: the word that is read is the group.
 use mathlib.Core.Path.{◌∙◌}
 use native.Mathlib.Omega.{arith}
-use borrow.Author.Rules.{rules}
 use Rattle.block.specs.Layout.{stream_offset}
 use Rattle.block.specs.Stream.{phase_in, loaded_phase}
 use Rattle.block.proofs.Lists.{word_read}

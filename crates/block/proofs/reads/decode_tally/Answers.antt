@@ -1,5 +1,4 @@
 -- `decode_tally` meets its contract: both numbers are taken from one word.
-use borrow.Author.Rules.{rules}
 use Rattle.block.proofs.reads.decode_tally.Goals as goal
 
 pub returns : goal.returns

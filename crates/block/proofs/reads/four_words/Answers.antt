@@ -1,5 +1,4 @@
 -- `four_words` meets its contract: each request is read back from its words.
-use borrow.Author.Rules.{rules}
 use Rattle.block.proofs.reads.four_words.Goals as goal
 
 pub returns : goal.returns

@@ -1,7 +1,6 @@
 -- `request_in` meets its contract: each field is what a callee or a word says.
 use Prim.Native.Nat.{◌+◌}
 use lib.ListN.{get_or}
-use borrow.Author.Rules.{rules}
 use Rattle.block.proofs.reads.request_in.Goals as goal
 
 pub returns : goal.returns

@@ -1,6 +1,5 @@
 -- `requests_in` meets its contract: each element is what a callee says.
 use mathlib.Core.List.{[], ◌∷◌}
-use borrow.Author.Rules.{rules}
 use Rattle.block.proofs.reads.requests_in.Goals as goal
 
 pub returns : goal.returns

@@ -1,5 +1,4 @@
 -- `buffer_in` meets its contract: each field is what a callee or a word says.
-use borrow.Author.Rules.{rules}
 use Rattle.block.proofs.sends.buffer_in.Goals as goal
 
 pub returns : goal.returns

@@ -1,6 +1,5 @@
 -- `buffers_in` meets its contract: each element is what a callee says.
 use mathlib.Core.List.{[], ◌∷◌}
-use borrow.Author.Rules.{rules}
 use Rattle.block.proofs.sends.buffers_in.Goals as goal
 
 pub returns : goal.returns

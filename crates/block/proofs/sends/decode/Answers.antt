@@ -1,7 +1,6 @@
 -- `decode` meets its contract: each field is what a callee or a word says.
 use Prim.Native.Nat.{◌/◌, ◌%◌}
 use lib.ListN.{get_or}
-use borrow.Author.Rules.{rules}
 use Rattle.block.proofs.sends.decode.Goals as goal
 
 pub returns : goal.returns

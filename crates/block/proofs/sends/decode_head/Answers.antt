@@ -1,7 +1,6 @@
 -- `decode_head` meets its contract: each number is taken from its word.
 use lib.ListN.{get_or}
 use Prim.Native.Nat.{◌/◌, ◌%◌}
-use borrow.Author.Rules.{rules}
 use Rattle.block.proofs.sends.decode_head.Goals as goal
 
 pub returns : goal.returns

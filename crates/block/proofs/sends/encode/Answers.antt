@@ -1,8 +1,7 @@
 -- `encode` meets its contract: the words are those of the callees, and each number in range is read back from its word.
-use borrow.Author.Rules.{rules}
 use Prim.Native.Nat.{ℕ}
 use mathlib.Core.Path.{◌≡◌, ◌∙◌}
-use lib.ListN.{length, get_or, length-map}
+use lib.ListN.{length, get_or}
 use Rattle.memory.specs.Buffer.{no_buffer}
 use Rattle.block.proofs.Lists.{listed_8, listed-all}
 use Rattle.block.proofs.Packing.{sends_back}

@@ -3,7 +3,6 @@ use Rattle.block.specs.Stream.{loaded_sends}
 use native.Mathlib.Omega.{arith}
 use mathlib.Core.Path.{◌≡◌, refl, ◌∙◌}
 use Prim.Native.Nat.{◌+◌, ◌-◌}
-use borrow.Author.Rules.{rules}
 use Rattle.block.proofs.sends.load_head.Goals as goal
 
 pub returns : goal.returns

@@ -1,6 +1,5 @@
 -- `store_stream` meets its contract: the five groups follow one another in the block.
 use native.Mathlib.Omega.{arith}
-use borrow.Author.Rules.{rules}
 use Rattle.block.proofs.Streams.{stream_stored}
 use Rattle.block.proofs.stream.store_stream.Goals as goal
 

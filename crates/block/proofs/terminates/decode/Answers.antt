@@ -1,5 +1,4 @@
 -- `decode` meets its contract: each field is what a callee or a word says.
-use borrow.Author.Rules.{rules}
 use Rattle.block.proofs.terminates.decode.Goals as goal
 
 pub returns : goal.returns

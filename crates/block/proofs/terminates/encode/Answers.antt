@@ -1,7 +1,6 @@
 -- `encode` meets its contract: a number in range is read back from its word.
 use mathlib.Core.Path.{◌≡◌, refl}
 use native.Mathlib.Omega.{arith}
-use borrow.Author.Rules.{rules}
 use Rattle.block.specs.Words.{lower_half}
 use Rattle.block.proofs.terminates.encode.Goals as goal
 

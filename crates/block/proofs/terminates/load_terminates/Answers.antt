@@ -2,7 +2,6 @@
 use Prim.Native.Nat.{◌+◌}
 use mathlib.Core.Path.{◌∙◌}
 use native.Mathlib.Omega.{arith}
-use borrow.Author.Rules.{rules}
 use Rattle.block.specs.Layout.{terminates_offset}
 use Rattle.block.specs.Queue.{terminates_in}
 use Rattle.block.specs.Stream.{loaded_terminates}

@@ -1,6 +1,5 @@
 -- `access_word` meets its contract: a flag is at most 1, so that the sums fit.
 use native.Mathlib.Omega.{arith}
-use borrow.Author.Rules.{rules}
 use Rattle.block.proofs.window.access_word.Goals as goal
 
 pub overflow_add-result : goal.overflow_add-result

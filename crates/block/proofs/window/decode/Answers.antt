@@ -1,7 +1,6 @@
 -- `decode` meets its contract: each field is what a callee or a word says.
 use Prim.Native.Nat.{◌/◌, ◌%◌}
 use lib.ListN.{get_or}
-use borrow.Author.Rules.{rules}
 use Rattle.block.specs.Words.{flag_in}
 use Rattle.block.proofs.window.decode.Goals as goal
 

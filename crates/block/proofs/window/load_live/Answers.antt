@@ -3,7 +3,6 @@ use Rattle.block.specs.Device.{loaded_window}
 use native.Mathlib.Omega.{arith}
 use mathlib.Core.Path.{◌≡◌, refl, ◌∙◌}
 use Prim.Native.Nat.{◌+◌, ◌-◌}
-use borrow.Author.Rules.{rules}
 use Rattle.block.proofs.window.load_live.Goals as goal
 
 pub returns : goal.returns

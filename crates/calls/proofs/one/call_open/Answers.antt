@@ -1,7 +1,6 @@
 -- `call_open` meets its contract: the device and the answer are those of the call by value.
 use mathlib.Core.Path.{ap, ◌∙◌}
 use Rattle.calls.specs.Words.{outcome_words}
-use borrow.Author.Rules.{rules}
 use Rattle.calls.proofs.one.call_open.Goals as goal
 
 pub returns : goal.returns

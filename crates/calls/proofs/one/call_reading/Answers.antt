@@ -1,7 +1,6 @@
 -- `call_reading` meets its contract: the answer is that of the call by value.
 use mathlib.Core.Path.{ap, ◌∙◌}
 use Rattle.calls.specs.Words.{reading_words}
-use borrow.Author.Rules.{rules}
 use Rattle.calls.proofs.one.call_reading.Goals as goal
 
 pub returns : goal.returns

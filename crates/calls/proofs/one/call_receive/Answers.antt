@@ -1,7 +1,6 @@
 -- `call_receive` meets its contract: the device, the answer and the store are those of the call by value.
 use mathlib.Core.Path.{ap, ◌∙◌}
 use Rattle.calls.specs.Words.{answer_words}
-use borrow.Author.Rules.{rules}
 use Rattle.calls.proofs.one.call_receive.Goals as goal
 
 pub returns : goal.returns

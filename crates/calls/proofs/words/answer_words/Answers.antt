@@ -1,7 +1,6 @@
 -- `answer_words` meets its contract: each answer is a case of `answer_words`.
 use mathlib.Core.Path.{sym, ap, ◌∙◌}
 use Rattle.calls.specs.Words.{answer_words}
-use borrow.Author.Rules.{rules}
 use Rattle.calls.proofs.words.answer_words.Goals as goal
 
 pub returns-in-Wait : goal.returns-in-Wait

@@ -1,7 +1,6 @@
 -- `close_words` meets its contract: each answer is a case of `close_words`.
 use mathlib.Core.Path.{sym, ap, ◌∙◌}
 use Rattle.calls.specs.Words.{close_words}
-use borrow.Author.Rules.{rules}
 use Rattle.calls.proofs.words.close_words.Goals as goal
 
 pub returns-in-Closed : goal.returns-in-Closed

@@ -1,7 +1,6 @@
 -- `count_words` meets its contract: each answer is a case of `count_words`.
 use mathlib.Core.Path.{sym, ap, ◌∙◌}
 use Rattle.calls.specs.Words.{count_words}
-use borrow.Author.Rules.{rules}
 use Rattle.calls.proofs.words.count_words.Goals as goal
 
 pub returns-in-Counted : goal.returns-in-Counted

@@ -1,7 +1,6 @@
 -- `event_words` meets its contract: each event is a case of `event_words`.
 use mathlib.Core.Path.{sym, ap, ◌∙◌}
 use Rattle.calls.specs.Words.{event_words}
-use borrow.Author.Rules.{rules}
 use Rattle.calls.proofs.words.event_words.Goals as goal
 
 pub returns-in-NoEvent : goal.returns-in-NoEvent

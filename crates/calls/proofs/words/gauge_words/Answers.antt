@@ -4,7 +4,6 @@ use mathlib.Core.Path.{sym, ap, ap₂, ◌∙◌}
 use Rattle.meter.specs.declared.gauge.Reading.{Reading}
 use Rattle.rnic.specs.declared.ReadingAnswer.TheVariants.{Reads}
 use Rattle.calls.specs.Words.{words, reading_words}
-use borrow.Author.Rules.{rules}
 use Rattle.calls.proofs.words.gauge_words.Goals as goal
 
 pub returns-in-Quiet : goal.returns-in-Quiet

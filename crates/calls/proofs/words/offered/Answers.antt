@@ -1,9 +1,7 @@
 -- `offered` meets its contract: the first word decides, as in `offered_words`.
-use Prim.Native.Nat.{ℕ}
 use mathlib.Core.Path.{ap}
 use borrow.Author.Tests.{le-leb, lt-leb, eq-eqb, ne_eqb}
 use Rattle.calls.specs.Words.{took_words, offered_words}
-use borrow.Author.Rules.{rules}
 use Rattle.calls.proofs.words.offered.Goals as goal
 
 pub returns-then-kind-eq5 : goal.returns-then-kind-eq5

@@ -1,7 +1,6 @@
 -- `outcome_words` meets its contract: each outcome is a case of `outcome_words`.
 use mathlib.Core.Path.{sym, ap, ◌∙◌}
 use Rattle.calls.specs.Words.{outcome_words}
-use borrow.Author.Rules.{rules}
 use Rattle.calls.proofs.words.outcome_words.Goals as goal
 
 pub returns-in-Done : goal.returns-in-Done

@@ -1,7 +1,6 @@
 -- `state_words` meets its contract: each answer is a case of `state_words`.
 use mathlib.Core.Path.{sym, ap, ◌∙◌}
 use Rattle.calls.specs.Words.{state_words}
-use borrow.Author.Rules.{rules}
 use Rattle.calls.proofs.words.state_words.Goals as goal
 
 pub returns-in-Closed : goal.returns-in-Closed

@@ -1,7 +1,6 @@
 -- `take_words` meets its contract: each answer is a case of `take_words`.
 use mathlib.Core.Path.{sym, ap, ◌∙◌}
 use Rattle.calls.specs.Words.{take_words}
-use borrow.Author.Rules.{rules}
 use Rattle.calls.proofs.words.take_words.Goals as goal
 
 pub returns-in-Read : goal.returns-in-Read

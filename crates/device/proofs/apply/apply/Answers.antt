@@ -13,8 +13,7 @@ use Rattle.rdmap.specs.Terminates.{risen_terminates}
 use Rattle.rdmap.specs.Sends.{sending_sends, sent_sends}
 use Rattle.rdmap.specs.Read.{queued_reads}
 use Rattle.rdmap.specs.Stream.{in_phase, with_sends, with_reads}
-use mathlib.Core.Path.{◌≡◌, refl, sym, ap, subst, ◌∙◌}
-use Prim.Native.Nat.{ℕ}
+use mathlib.Core.Path.{ap, ◌∙◌}
 use borrow.Author.Rules.{rules}
 use Rattle.device.proofs.apply.apply.Goals as goal
 

@@ -2,9 +2,7 @@
 -- `apply_tagged` meets its contract: the first three arms are those of `apply`, and no other verdict is on a tagged segment.
 use Rattle.device.proofs.Applied.{told, refused, nothing, written}
 use Rattle.device.specs.Lifted.{OfTagged}
-use mathlib.Core.Path.{◌≡◌, refl, sym, ap, subst, ◌∙◌}
-use Prim.Native.Nat.{ℕ}
-use borrow.Author.Rules.{rules}
+use mathlib.Core.Path.{subst, ◌∙◌}
 use Rattle.device.proofs.apply.apply_tagged.Goals as goal
 
 pub returns-in-Refused : goal.returns-in-Refused

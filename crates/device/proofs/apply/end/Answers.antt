@@ -4,8 +4,7 @@ use Rattle.block.specs.Exchange.{stream_of, with_stream_of}
 use Rattle.block.specs.Device.{rnic_at}
 use Rattle.rdmap.specs.declared.phase.Phase.{Phase}
 use Rattle.rdmap.specs.Stream.{in_phase}
-use mathlib.Core.Path.{◌≡◌, refl, sym, ap, subst, ◌∙◌}
-use Prim.Native.Nat.{ℕ}
+use mathlib.Core.Path.{refl, ap, ◌∙◌}
 use borrow.Author.Rules.{rules}
 use Rattle.device.proofs.apply.end.Goals as goal
 

@@ -16,8 +16,7 @@ use Rattle.rdmap.specs.declared.message.Invalidate.{Invalidate}
 use Rattle.memory.specs.Window.{refusing, entering, dropped_in, dropped}
 use native.Mathlib.Omega.{arith}
 use borrow.Author.Tests.{le-leb, lt-leb}
-use mathlib.Core.Path.{◌≡◌, refl, sym, ap, ap₂, subst, ◌∙◌}
-use borrow.Author.Rules.{rules}
+use mathlib.Core.Path.{◌≡◌, sym, ap, ◌∙◌}
 use Rattle.device.proofs.apply.kill.Goals as goal
 
 -- the device with what an invalidation leaves of a domain's windows

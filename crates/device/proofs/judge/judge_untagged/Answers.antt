@@ -7,7 +7,7 @@ use Rattle.rdmap.specs.Message.{stag_named, untagged_verdict}
 use Rattle.ddp.specs.Untagged.{untagged_of}
 use Rattle.memory.specs.Window.{slot_named}
 use lib.ListN.{length}
-use mathlib.Core.Path.{◌≡◌, refl, sym, ap, ap₂, subst, ◌∙◌}
+use mathlib.Core.Path.{sym, ap, ◌∙◌}
 use borrow.Author.Rules.{rules}
 use Rattle.device.proofs.judge.judge_untagged.Goals as goal
 

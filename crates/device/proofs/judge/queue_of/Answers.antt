@@ -5,8 +5,7 @@ use Rattle.rdmap.specs.Terminates.{terminate_queue}
 use Rattle.rdmap.specs.Message.{queue_of}
 use borrow.Author.Tests.{eq-eqb, ne_eqb}
 use lib.Dec.{ltb}
-use mathlib.Core.Path.{◌≡◌, refl, sym, ap, ap₂, subst, ◌∙◌}
-use borrow.Author.Rules.{rules}
+use mathlib.Core.Path.{sym, ap, ◌∙◌}
 use Rattle.device.proofs.judge.queue_of.Goals as goal
 
 pub returns-then-qn-eq0 : goal.returns-then-qn-eq0

@@ -3,7 +3,6 @@ use mathlib.Core.Path.{sym, ◌∙◌}
 use borrow.Author.Tests.{le-leb, lt-leb, eq-eqb, ne_eqb}
 use Rattle.rnic.specs.Offer.{rnic_offered, rnic_offered_store, rnic_offered_rooms}
 use Rattle.block.proofs.Stored.{len_at}
-use borrow.Author.Rules.{rules}
 use Rattle.device.proofs.offer.offer.Goals as goal
 
 pub returns-then-rooms-eq-ROOMS : goal.returns-then-rooms-eq-ROOMS

@@ -1,7 +1,6 @@
 -- `offer_fresh` meets its contract: by the first word of receive's answer, as proofs/Offered.antt has it.
 use mathlib.Core.Path.{◌∙◌}
 use Rattle.device.proofs.Offered.{fresh_kept, fresh_done}
-use borrow.Author.Rules.{rules}
 use Rattle.device.proofs.offer.offer_fresh.Goals as goal
 
 pub returns-then-kind-eq5 : goal.returns-then-kind-eq5

@@ -9,7 +9,6 @@ use Rattle.rdmap.specs.declared.framing.Framing.{Framing}
 use Rattle.holding.proofs.Rooms.{room-length}
 use Rattle.calls.specs.Words.{offered_words}
 use Rattle.device.proofs.Offered.{held_kept, held-taken, enough-fits}
-use borrow.Author.Rules.{rules}
 use Rattle.device.proofs.offer.offer_held.Goals as goal
 
 pub slice_bounds-pending-end : goal.slice_bounds-pending-end

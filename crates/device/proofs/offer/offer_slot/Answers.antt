@@ -4,7 +4,6 @@ use native.Mathlib.Omega.{arith}
 use Rattle.rdmap.specs.Phase.{readiness}
 use Rattle.device.proofs.Offered.{offer-shut}
 use Rattle.slots.proofs.Slots.{phase_of_lem, framing_of}
-use borrow.Author.Rules.{rules}
 use Rattle.device.proofs.offer.offer_slot.Goals as goal
 
 pub returns-in-NotReady : goal.returns-in-NotReady

@@ -7,7 +7,6 @@ use lib.Dec.{leb}
 use native.Mathlib.Omega.{arith}
 use Prim.Native.Nat.{◌≤◌}
 use mathlib.Core.Path.{sym, ◌∙◌}
-use borrow.Author.Rules.{rules}
 use Rattle.device.proofs.opening.open.Goals as goal
 
 pub overflow_cast-len : goal.overflow_cast-len

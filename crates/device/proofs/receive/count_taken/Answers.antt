@@ -9,7 +9,6 @@ use Rattle.rnic.specs.Rnic.{domain_at, with_domain}
 use Rattle.block.specs.Device.{rnic_at}
 use Rattle.block.proofs.Stored.{meter_at_lem, count_changed}
 use Rattle.slots.proofs.Slots.{domain-kept}
-use borrow.Author.Rules.{rules}
 use Rattle.device.proofs.receive.count_taken.Goals as goal
 
 pub returns-in-Wait : goal.returns-in-Wait

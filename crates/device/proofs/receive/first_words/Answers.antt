@@ -1,6 +1,5 @@
 -- `first_words` meets its contract: it is `receive_first`, and the words of its answer.
 use mathlib.Core.Path.{ap, ◌∙◌}
-use borrow.Author.Rules.{rules}
 use Rattle.calls.specs.Words.{answer_words}
 use Rattle.device.proofs.receive.first_words.Goals as goal
 

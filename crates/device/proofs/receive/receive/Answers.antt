@@ -3,7 +3,6 @@ use mathlib.Core.Path.{sym, ◌∙◌}
 use borrow.Author.Tests.{le-leb, lt-leb, eq-eqb, ne_eqb}
 use Rattle.rnic.specs.Rnic.{rnic_received, rnic_received_store}
 use Rattle.block.proofs.Stored.{len_at}
-use borrow.Author.Rules.{rules}
 use Rattle.device.proofs.receive.receive.Goals as goal
 
 pub returns-then-store-len : goal.returns-then-store-len

@@ -22,7 +22,6 @@ use Rattle.memory.specs.declared.window.Window.{Window}
 use lib.ListN.{length}
 use native.Mathlib.Omega.{arith}
 use mathlib.Core.List.{List}
-use Prim.Native.Nat.{◌+◌, ◌≤◌}
 use mathlib.Core.Path.{◌≡◌, refl, sym, ap, subst, ◌∙◌}
 use Prim.Native.Nat.{ℕ}
 use Rattle.ddp.specs.declared.segment.SegmentRead.TheVariants.{Refused as SegmentRefused, Tagged as TaggedSegment, Untagged as UntaggedSegment}

@@ -1,6 +1,6 @@
 -- `receive_owned` meets its contract: the part decides, and the owner's bytes are what the slot's receive gives.
 use Prim.Native.Nat.{◌/◌, ◌%◌}
-use mathlib.Core.Path.{◌≡◌, sym, ap, ◌∙◌}
+use mathlib.Core.Path.{sym, ap, ◌∙◌}
 use native.Mathlib.Omega.{arith}
 use lib.ListN.{length}
 use Rattle.memory.proofs.Laws.{fits-ends}

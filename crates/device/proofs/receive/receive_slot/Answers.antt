@@ -4,7 +4,6 @@ use borrow.Author.Tests.{lt-ltb, le-ltb}
 use Rattle.rdmap.specs.Phase.{readiness}
 use Rattle.device.proofs.Offered.{receives_none, receives_held, shut_none, ready-holds}
 use Rattle.device.proofs.Received.{not-ready, is-ready}
-use borrow.Author.Rules.{rules}
 use Rattle.device.proofs.receive.receive_slot.Goals as goal
 
 pub returns-in-NotReady : goal.returns-in-NotReady

@@ -5,7 +5,6 @@ use Rattle.memory.specs.Window.{dropped}
 use borrow.Author.Tests.{le-leb, lt-leb}
 use Prim.Native.Nat.{◌%◌}
 use native.Mathlib.Omega.{arith}
-use borrow.Author.Rules.{rules}
 use Rattle.device.proofs.window.drop_window.Goals as goal
 
 pub returns-then-window-le63 : goal.returns-then-window-le63

@@ -1,6 +1,5 @@
 -- `crc_fault` meets its contract, by the word's length and what it is as hex.
 use mathlib.Core.Path.{sym, ◌∙◌}
-use borrow.Author.Rules.{rules}
 use borrow.Author.Tests.{eq-eqb, ne_eqb}
 use Rattle.faults.specs.Fault.{crc_fault}
 use Rattle.faults.proofs.fault.crc_fault.Goals as goal

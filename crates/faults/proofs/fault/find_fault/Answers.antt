@@ -1,12 +1,11 @@
 -- `find_fault` meets its contract: what is found from word i + 1 on is what is found from the first on.
-use Prim.Native.Nat.{◌+◌, ◌≤◌, ◌<◌, ◌-◌}
-use mathlib.Core.Path.{◌≡◌, refl, sym, ap, ◌∙◌}
+use Prim.Native.Nat.{◌+◌, ◌<◌}
+use mathlib.Core.Path.{refl, sym, ap, ◌∙◌}
 use native.Mathlib.Omega.{arith}
-use lib.ListN.{length, drop, get_or}
-use borrow.Author.Rules.{rules}
-use Rattle.command.specs.Args.{words_at, word_of}
+use lib.ListN.{length, get_or}
+use Rattle.command.specs.Args.{words_at}
 use Rattle.command.proofs.Listed.{words_count}
-use Rattle.faults.specs.Fault.{fault_of, is_fault, found, found_from}
+use Rattle.faults.specs.Fault.{fault_of, is_fault, found}
 use Rattle.faults.proofs.Finding.{all_seen, no_more, here, later}
 use Rattle.faults.proofs.fault.find_fault.Goals as goal
 

@@ -1,6 +1,5 @@
 -- `hex_fault` meets its contract, by what the word is as hex and whether its length is even.
 use mathlib.Core.Path.{sym, ◌∙◌}
-use borrow.Author.Rules.{rules}
 use borrow.Author.Tests.{eq-eqb, ne_eqb}
 use Rattle.faults.specs.Fault.{hex_fault}
 use Rattle.faults.proofs.fault.hex_fault.Goals as goal

@@ -1,6 +1,5 @@
 -- `number_fault` meets its contract, by what the word is as a number and whether it has digits alone.
 use mathlib.Core.Path.{sym, ◌∙◌}
-use borrow.Author.Rules.{rules}
 use borrow.Author.Tests.{eq-eqb, ne_eqb}
 use Rattle.faults.specs.Fault.{number_fault}
 use Rattle.faults.proofs.fault.number_fault.Goals as goal

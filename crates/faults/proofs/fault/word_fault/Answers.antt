@@ -3,7 +3,6 @@ use mathlib.Core.Path.{ap, ◌∙◌}
 use borrow.Author.Tests.{eq-eqb, ne_eqb}
 use Rattle.faults.specs.Fault.{flag_fault, fault_of}
 use Rattle.faults.specs.declared.fault.Fault.{Fault}
-use borrow.Author.Rules.{rules}
 use Rattle.faults.proofs.fault.word_fault.Goals as goal
 
 pub returns-then-kind-eq110 : goal.returns-then-kind-eq110

@@ -1,5 +1,4 @@
 -- `ends_in_cr` meets its contract, by whether there is a last byte.
-use borrow.Author.Rules.{rules}
 use borrow.Author.Tests.{eq-eqb, ne_eqb}
 use Rattle.faults.specs.Look.{ends_in_cr}
 use Rattle.faults.proofs.look.ends_in_cr.Goals as goal

@@ -1,6 +1,5 @@
 -- `look_at` meets its contract: each `return` rewrites with the tests that led there.
 use mathlib.Core.Path.{sym, ◌∙◌}
-use borrow.Author.Rules.{rules}
 use borrow.Author.Tests.{le-leb, lt-leb, eq-eqb, ne_eqb}
 use Rattle.faults.specs.Look.{look_of}
 use Rattle.faults.proofs.look.look_at.Goals as goal

@@ -1,10 +1,6 @@
 -- `past_between` meets its contract: over a byte between the two the place that is looked for stays the same, and at another it is found.
-use Prim.Native.Nat.{◌-◌}
-use mathlib.Core.Path.{◌≡◌, refl, sym, ◌∙◌}
-use native.Mathlib.Omega.{arith}
-use lib.ListN.{length}
+use mathlib.Core.Path.{sym, ◌∙◌}
 use Rattle.script.specs.Number.{between}
-use Rattle.script.specs.Word.{past}
 use Rattle.script.proofs.Scan.{stay, stop, none}
 use Rattle.faults.proofs.Between.{below, above, inside}
 use Rattle.faults.proofs.look.past_between.Goals as goal

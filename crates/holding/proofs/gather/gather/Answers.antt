@@ -5,7 +5,6 @@ use mathlib.Core.List.{List, ◌++◌}
 use native.Mathlib.Omega.{arith}
 use lib.ListN.{length, take}
 use lib.Seq.{length-take-le}
-use borrow.Author.Rules.{rules}
 use Rattle.holding.specs.Pending.{needed_of}
 use Rattle.holding.proofs.Rooms.{gathered_short, room_short, gathered-enough, room-rest, room_fresh, room-over}
 use Rattle.holding.proofs.gather.gather.Goals as goal

@@ -1,11 +1,10 @@
 -- `pending` meets its contract: a place before the seam of two lists is one of the first, and one from it on of the second.
-use Prim.Native.Nat.{ℕ, ◌+◌, ◌-◌}
-use mathlib.Core.Path.{◌≡◌, sym, ap, ◌∙◌}
+use Prim.Native.Nat.{ℕ, ◌-◌}
+use mathlib.Core.Path.{sym, ap, ◌∙◌}
 use native.Mathlib.Omega.{arith}
 use lib.ListN.{get_or, take, get_or-append}
 use lib.Seq.{get_or-take, get_or-append-add, length-take-le}
-use mathlib.Core.List.{List, ◌++◌}
-use borrow.Author.Rules.{rules}
+use mathlib.Core.List.{◌++◌}
 use Rattle.holding.proofs.gather.pending.Goals as goal
 
 pub returns-then-i-held : goal.returns-then-i-held

@@ -1,6 +1,5 @@
 -- `add_number` meets its contract: the place after a put lies within the text.
 use mathlib.Core.Path.{refl}
-use borrow.Author.Rules.{rules}
 use Rattle.command.proofs.Within.{put-fits}
 use Rattle.reasons.proofs.say.add_number.Goals as goal
 

@@ -1,6 +1,5 @@
 -- `ask_call` meets its contract, by the name.
-use mathlib.Core.Path.{◌≡◌, subst}
-use borrow.Author.Rules.{rules}
+use mathlib.Core.Path.{subst}
 use lib.ListN.{length}
 use Rattle.wire.specs.Wire.{same}
 use Rattle.command.specs.Args.{words_at}

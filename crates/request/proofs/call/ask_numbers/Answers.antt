@@ -1,6 +1,5 @@
 -- `ask_numbers` meets its contract, by whether the words are as many numbers as the name wants.
-use mathlib.Core.Path.{◌≡◌, refl, sym, ap, ◌∙◌}
-use borrow.Author.Rules.{rules}
+use mathlib.Core.Path.{sym, ap, ◌∙◌}
 use Rattle.command.specs.Args.{words_at}
 use Rattle.request.proofs.Asking.{numbers-none, numbers-are, kept-opened, kept_else}
 use lib.ListN.{get_or}

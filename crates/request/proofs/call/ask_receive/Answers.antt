@@ -1,6 +1,5 @@
 -- `ask_receive` meets its contract, by what is lent and what the words are read as.
-use mathlib.Core.Path.{◌≡◌, refl, sym, ap, ◌∙◌}
-use borrow.Author.Rules.{rules}
+use mathlib.Core.Path.{refl, sym, ap, ◌∙◌}
 use lib.ListN.{length}
 use Rattle.script.specs.Number.{number_of}
 use Rattle.script.specs.Hex.{decoded_of, decoded_in}

@@ -1,6 +1,5 @@
 -- `ask_stream` meets its contract, by how many words the line has and what they are read as.
 use mathlib.Core.Path.{◌≡◌, refl, sym, ap, ◌∙◌}
-use borrow.Author.Rules.{rules}
 use Rattle.script.specs.Number.{number_of}
 use Rattle.script.specs.declared.number.Number.TheVariants.{Value, Bad}
 use Rattle.command.specs.declared.args.Flag.{Flag}

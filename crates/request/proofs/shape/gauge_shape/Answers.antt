@@ -1,6 +1,5 @@
 -- `gauge_shape` meets its contract: each answer goes by the comparisons before it, which are those of the definition.
 use mathlib.Core.Path.{sym, ◌∙◌}
-use borrow.Author.Rules.{rules}
 use Rattle.request.specs.Request.{gauge_shape}
 use Rattle.request.proofs.shape.gauge_shape.Goals as goal
 

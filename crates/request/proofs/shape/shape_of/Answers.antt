@@ -1,6 +1,5 @@
 -- `shape_of` meets its contract: each answer goes by the comparisons before it, which are those of the definition.
 use mathlib.Core.Path.{sym, ◌∙◌}
-use borrow.Author.Rules.{rules}
 use Rattle.request.specs.Request.{shape_of}
 use Rattle.request.proofs.shape.shape_of.Goals as goal
 

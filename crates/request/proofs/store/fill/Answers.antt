@@ -1,5 +1,5 @@
 -- `fill` meets its contract, by how many words the line has and what they are read as.
-use mathlib.Core.Path.{◌≡◌, refl, sym, ap, ◌∙◌}
+use mathlib.Core.Path.{refl, ap, ◌∙◌}
 use borrow.Author.Rules.{rules}
 use lib.ListN.{length, take}
 use Rattle.script.specs.Number.{number_of}

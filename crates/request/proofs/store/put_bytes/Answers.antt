@@ -1,5 +1,4 @@
 -- `put_bytes` meets its contract: the bytes are put where they end within the store.
-use mathlib.Core.Path.{◌≡◌, refl}
 use native.Mathlib.Omega.{arith}
 use lib.ListN.{length}
 use Prim.Native.Nat.{◌+◌}

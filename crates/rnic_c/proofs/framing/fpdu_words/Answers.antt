@@ -1,6 +1,5 @@
 -- `fpdu_words` meets its contract, case by case.
 use mathlib.Core.Path.{sym, ap}
-use borrow.Author.Rules.{rules}
 use Rattle.rnic_c.specs.Framing.{fpdu_words}
 use Rattle.rnic_c.proofs.framing.fpdu_words.Goals as goal
 

@@ -1,6 +1,5 @@
 -- `rnic_c_fpdu_read` meets its contract: it is `read_fpdu`, and the words of what was read.
 use mathlib.Core.Path.{ap, ◌∙◌}
-use borrow.Author.Rules.{rules}
 use Rattle.rnic_c.specs.Framing.{fpdu_words}
 use Rattle.rnic_c.proofs.framing.rnic_c_fpdu_read.Goals as goal
 

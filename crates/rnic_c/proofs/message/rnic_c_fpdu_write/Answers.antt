@@ -1,7 +1,6 @@
 -- `rnic_c_fpdu_write` meets its contract: it is `write_fpdu`, and the words of its answer.
 use mathlib.Core.Path.{ap, ◌∙◌}
 use Rattle.rnic_c.specs.Written.{written_words}
-use borrow.Author.Rules.{rules}
 use Rattle.rnic_c.proofs.message.rnic_c_fpdu_write.Goals as goal
 
 pub returns : goal.returns

@@ -1,7 +1,6 @@
 -- `rnic_c_message_send` meets its contract: it is `begin_send`, and the words of what was begun.
 use mathlib.Core.Path.{ap, ◌∙◌}
 use Rattle.sender.specs.Words.{begun_number, begun_words}
-use borrow.Author.Rules.{rules}
 use Rattle.rnic_c.proofs.message.rnic_c_message_send.Goals as goal
 
 pub returns : goal.returns

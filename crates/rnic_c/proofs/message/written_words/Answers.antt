@@ -1,7 +1,6 @@
 -- `written_words` meets its contract: each answer has its kind and its number.
 use mathlib.Core.Path.{sym, ap}
 use Rattle.rnic_c.specs.Written.{written_words}
-use borrow.Author.Rules.{rules}
 use Rattle.rnic_c.proofs.message.written_words.Goals as goal
 
 pub returns-in-Refused : goal.returns-in-Refused

@@ -1,6 +1,5 @@
 -- `form_at` meets its contract: the tests that led to each return say which case of `form_at` holds.
 use borrow.Author.Tests.{eq-eqb, ne_eqb}
-use borrow.Author.Rules.{rules}
 use Rattle.rnic_c.proofs.startup.form_at.Goals as goal
 
 pub returns-then-kind-eq1 : goal.returns-then-kind-eq1

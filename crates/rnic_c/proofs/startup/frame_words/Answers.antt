@@ -1,7 +1,6 @@
 -- `frame_words` meets its contract, case by case.
 use mathlib.Core.Path.{sym, ap, ◌∙◌}
 use Rattle.rnic_c.specs.Startup.{frame_words}
-use borrow.Author.Rules.{rules}
 use Rattle.rnic_c.proofs.startup.frame_words.Goals as goal
 
 pub returns-in-Wait : goal.returns-in-Wait

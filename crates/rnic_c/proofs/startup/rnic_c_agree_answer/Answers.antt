@@ -3,7 +3,6 @@ use lib.ListN.{get_or}
 use mathlib.Core.Path.{ap, ◌∙◌}
 use Rattle.startup2.specs.Agree.{answered_of}
 use Rattle.rnic_c.specs.Startup.{answered_number, reply_words, answered_words}
-use borrow.Author.Rules.{rules}
 use Rattle.rnic_c.proofs.startup.rnic_c_agree_answer.Goals as goal
 
 pub returns : goal.returns

@@ -2,7 +2,6 @@
 use mathlib.Core.Path.{ap, ◌∙◌}
 use Rattle.startup2.specs.Agree.{settled_of}
 use Rattle.rnic_c.specs.Startup.{settled_number, settled_words}
-use borrow.Author.Rules.{rules}
 use Rattle.rnic_c.proofs.startup.rnic_c_agree_settle.Goals as goal
 
 pub returns : goal.returns

@@ -1,7 +1,6 @@
 -- `rnic_c_startup_read` meets its contract: it is `read_frame`, and the words of what was read.
 use mathlib.Core.Path.{ap, ◌∙◌}
 use Rattle.rnic_c.specs.Startup.{frame_words}
-use borrow.Author.Rules.{rules}
 use Rattle.rnic_c.proofs.startup.rnic_c_startup_read.Goals as goal
 
 pub returns : goal.returns

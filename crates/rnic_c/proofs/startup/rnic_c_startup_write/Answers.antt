@@ -4,7 +4,6 @@ use mathlib.Core.Path.{sym, ap, ◌∙◌}
 use Rattle.startup2.specs.Frame.{frame_written, frame_out}
 use Rattle.rnic_c.specs.Written.{written_words}
 use Rattle.rnic_c.specs.Startup.{is_set, form_written, form_out}
-use borrow.Author.Rules.{rules}
 use Rattle.rnic_c.proofs.startup.rnic_c_startup_write.Goals as goal
 
 pub returns-then-is_form : goal.returns-then-is_form

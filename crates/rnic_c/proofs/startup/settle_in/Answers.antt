@@ -1,7 +1,6 @@
 -- `settle_in` meets its contract: terms that were agreed are put into the words, and a refusal leaves them.
 use mathlib.Core.Path.{sym, ap, ◌∙◌}
 use Rattle.rnic_c.specs.Startup.{settled_number, settled_words}
-use borrow.Author.Rules.{rules}
 use Rattle.rnic_c.proofs.startup.settle_in.Goals as goal
 
 pub returns-in-Agreed : goal.returns-in-Agreed

@@ -1,7 +1,6 @@
 -- `taken_words` meets its contract, form by form.
 use mathlib.Core.Path.{sym, ap}
 use Rattle.rnic_c.specs.Startup.{taken_words}
-use borrow.Author.Rules.{rules}
 use Rattle.rnic_c.proofs.startup.taken_words.Goals as goal
 
 pub returns-in-First : goal.returns-in-First

@@ -1,5 +1,5 @@
 -- `next` meets its contract: at each return the tests that led there say which case of `next_answer` holds.
-use Rattle.std.proofs.Common.{ℕ, ◌+◌, ◌<◌, length, ap₂, arith, rules, eq-eqb, ne_eqb, le-leb}
+use Rattle.std.proofs.Common.{ℕ, ◌+◌, ◌<◌, length, ap₂, arith, eq-eqb, ne_eqb, le-leb}
 use borrow.Author.Tests.{lt-leb}
 use Rattle.sender.specs.Message.{segment_size, next_answer}
 use Rattle.sender.proofs.Writes.{refuses, ends, writes, answer_wrote}

@@ -1,5 +1,5 @@
 -- `send_in_range` meets its contract: each test picks the case of `both`.
-use Rattle.std.proofs.Common.{sym, ◌∙◌, rules, le-leb}
+use Rattle.std.proofs.Common.{sym, ◌∙◌, le-leb}
 use borrow.Author.Tests.{lt-leb}
 use Rattle.sender.proofs.range.send_in_range.Goals as goal
 

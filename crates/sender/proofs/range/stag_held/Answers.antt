@@ -1,5 +1,5 @@
 -- `stag_held` meets its contract: the test picks the case of `stag_held`.
-use Rattle.std.proofs.Common.{sym, ◌∙◌, rules}
+use Rattle.std.proofs.Common.{sym, ◌∙◌}
 use Rattle.sender.proofs.range.stag_held.Goals as goal
 
 pub returns-then-takes_stag : goal.returns-then-takes_stag

@@ -1,5 +1,5 @@
 -- `write_in_range` meets its contract: each test picks the case of `both`.
-use Rattle.std.proofs.Common.{Bool, not, sym, ap, ◌∙◌, rules, le-leb}
+use Rattle.std.proofs.Common.{Bool, not, sym, ap, ◌∙◌, le-leb}
 use borrow.Author.Tests.{lt-leb}
 use Rattle.sender.proofs.range.write_in_range.Goals as goal
 

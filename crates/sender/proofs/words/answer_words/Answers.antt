@@ -1,5 +1,5 @@
 -- `answer_words` meets its contract: each answer has its kind and its number.
-use Rattle.std.proofs.Common.{sym, ap, rules}
+use Rattle.std.proofs.Common.{sym, ap}
 use Rattle.sender.specs.Words.{segment_words}
 use Rattle.sender.proofs.words.answer_words.Goals as goal
 

@@ -1,5 +1,5 @@
 -- `begin_in` meets its contract: a message that was begun is stored, and a refused one is not.
-use Rattle.std.proofs.Common.{sym, ap, ◌∙◌, rules}
+use Rattle.std.proofs.Common.{sym, ap, ◌∙◌}
 use Rattle.sender.specs.Words.{begun_number, begun_words}
 use Rattle.sender.proofs.words.begin_in.Goals as goal
 

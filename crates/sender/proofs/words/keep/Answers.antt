@@ -1,5 +1,5 @@
 -- `keep` meets its contract: the words change where a segment was written.
-use Rattle.std.proofs.Common.{sym, ap, ◌∙◌, rules}
+use Rattle.std.proofs.Common.{sym, ap, ◌∙◌}
 use Rattle.sender.specs.Words.{message_at, words_after, message_then}
 use Rattle.sender.proofs.words.keep.Goals as goal
 

@@ -1,5 +1,5 @@
 -- `load` meets its contract, field by field.
-use Rattle.std.proofs.Common.{◌%◌, get_or, rules}
+use Rattle.std.proofs.Common.{◌%◌, get_or}
 use Rattle.sender.specs.Words.{flag_in, message_at}
 use Rattle.sender.proofs.words.load.Goals as goal
 

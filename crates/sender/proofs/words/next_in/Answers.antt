@@ -1,5 +1,5 @@
 -- `next_in` meets its contract: the message is loaded, asked, and kept.
-use Rattle.std.proofs.Common.{length, ap, ◌∙◌, rules}
+use Rattle.std.proofs.Common.{length, ap, ◌∙◌}
 use Rattle.sender.specs.declared.Next.{Next}
 use Rattle.sender.specs.Message.{next_of, next_out}
 use Rattle.sender.specs.Words.{message_at, segment_words, message_then, words_next}

@@ -1,5 +1,5 @@
 -- `store` meets its contract: the words are those of the message, and say it.
-use Rattle.std.proofs.Common.{ap, ◌∙◌, rules}
+use Rattle.std.proofs.Common.{ap, ◌∙◌}
 use Rattle.sender.specs.Words.{message_at}
 use Rattle.sender.proofs.words.store.Goals as goal
 

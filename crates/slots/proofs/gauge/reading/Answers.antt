@@ -1,14 +1,13 @@
 -- `reading` meets its contract: the number decides, and the answer is that of the domain's meter.
 use Prim.Native.Nat.{◌<◌}
 use native.Mathlib.Omega.{arith}
-use mathlib.Core.Path.{◌≡◌, sym, ap, ◌∙◌}
+use mathlib.Core.Path.{sym, ap, ◌∙◌}
 use borrow.Author.Tests.{le-leb, lt-leb}
 use Rattle.meter.specs.Gauge.{reading_of}
 use Rattle.meter.specs.declared.Meter.{Meter}
 use Rattle.rnic.specs.Rnic.{rnic_reading}
 use Rattle.rnic.specs.declared.ReadingAnswer.TheVariants.{Reads}
 use Rattle.block.proofs.Stored.{meter_at_lem}
-use borrow.Author.Rules.{rules}
 use Rattle.slots.proofs.gauge.reading.Goals as goal
 
 pub returns-then-number-le3 : goal.returns-then-number-le3

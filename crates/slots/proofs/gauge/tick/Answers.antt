@@ -9,7 +9,6 @@ use Rattle.domain.specs.Domain.{with_meter}
 use Rattle.rnic.specs.Rnic.{domain_at, with_domain, rnic_ticked}
 use Rattle.block.specs.Device.{rnic_at}
 use Rattle.block.proofs.Stored.{meter_at_lem, ticked_changed}
-use borrow.Author.Rules.{rules}
 use Rattle.slots.proofs.gauge.tick.Goals as goal
 
 pub returns-then-number-le3 : goal.returns-then-number-le3

@@ -4,7 +4,6 @@ use mathlib.Core.Path.{sym, ap, ap₂, ◌∙◌}
 use Rattle.overlap.specs.Sharing.{either, streams_share}
 use Rattle.domain.specs.Sharing.{domain_shares}
 use Rattle.slots.proofs.Shared.{streams_of}
-use borrow.Author.Rules.{rules}
 use Rattle.slots.proofs.sharing.domain_shares.Goals as goal
 
 pub returns-then-windows_share : goal.returns-then-windows_share

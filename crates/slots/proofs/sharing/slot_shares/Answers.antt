@@ -5,7 +5,6 @@ use Rattle.block.specs.declared.sends.Head.{Head}
 use Rattle.rdmap.specs.declared.sends.Sends.{Sends}
 use Rattle.slots.proofs.Slots.{sends_of}
 use Rattle.slots.proofs.Shared.{none-waiting}
-use borrow.Author.Rules.{rules}
 use Rattle.slots.proofs.sharing.slot_shares.Goals as goal
 
 pub returns-then-head-eq0 : goal.returns-then-head-eq0

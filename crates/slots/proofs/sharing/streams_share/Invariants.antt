@@ -1,12 +1,9 @@
 -- `streams_share` meets its contract. The invariant: what is known so far is that of the streams from i on.
-use Prim.Native.Nat.{ℕ, ◌+◌, ◌-◌, ◌≤◌}
-use mathlib.Core.Bool.{true, false}
-use mathlib.Core.Path.{◌≡◌, sym, ap, ◌∙◌}
-use native.Mathlib.Omega.{arith}
+use Prim.Native.Nat.{◌≤◌}
+use mathlib.Core.Path.{◌≡◌}
 use lib.ListN.{drop}
 use Rattle.overlap.specs.Sharing.{streams_share}
-use Rattle.slots.proofs.Shared.{streams_of, streams_end, streams_next}
-use borrow.Author.Rules.{rules}
+use Rattle.slots.proofs.Shared.{streams_of}
 use Rattle.slots.proofs.sharing.streams_share.Given as goal
 
 abbrev pub invariant-loop-i : goal.invariant-loop-i

@@ -1,5 +1,5 @@
 -- `windows_share` meets its contract. The invariant: what is known so far is that of the windows from i on.
-use Prim.Native.Nat.{ℕ, ◌+◌, ◌-◌, ◌≤◌}
+use Prim.Native.Nat.{ℕ, ◌+◌, ◌-◌}
 use mathlib.Core.Bool.{true, false}
 use mathlib.Core.Path.{◌≡◌, sym, ap, ◌∙◌}
 use native.Mathlib.Omega.{arith}
@@ -8,7 +8,6 @@ use Rattle.memory.specs.declared.window.Window.{Window}
 use Rattle.overlap.specs.Sharing.{window_shares, windows_share}
 use Rattle.slots.proofs.Windows.{windows_of}
 use Rattle.slots.proofs.Shared.{windows_end, windows_next}
-use borrow.Author.Rules.{rules}
 use Rattle.slots.proofs.sharing.windows_share.Goals as goal
 
 pub loop-i-init : goal.loop-i-init

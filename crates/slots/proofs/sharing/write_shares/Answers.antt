@@ -5,7 +5,6 @@ use Rattle.wire.specs.Wire.{both}
 use Rattle.domain.specs.Sharing.{domain_shares}
 use Rattle.rnic.specs.Rnic.{domain_at}
 use Rattle.block.specs.Device.{rnic_at}
-use borrow.Author.Rules.{rules}
 use Rattle.slots.proofs.sharing.write_shares.Goals as goal
 
 pub returns-then-has_write : goal.returns-then-has_write

@@ -9,7 +9,7 @@ use Rattle.rdmap.specs.declared.stream.CloseAnswer.TheVariants.{Closed}
 use Rattle.rdmap.specs.declared.stream.Stream.{Stream}
 use Rattle.rdmap.specs.Phase.{is_closed}
 use Prim.Native.Nat.{ℕ}
-use mathlib.Core.Path.{◌≡◌, sym, ap, ap₂, ◌∙◌}
+use mathlib.Core.Path.{sym, ap, ap₂, ◌∙◌}
 use borrow.Author.Rules.{rules}
 use Rattle.slots.proofs.stream.close_slot.Goals as goal
 

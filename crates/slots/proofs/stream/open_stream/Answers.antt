@@ -4,7 +4,6 @@ use Rattle.domain.specs.Domain.{domain_opened}
 use borrow.Author.Tests.{le-leb, lt-leb}
 use Prim.Native.Nat.{◌%◌}
 use native.Mathlib.Omega.{arith}
-use borrow.Author.Rules.{rules}
 use Rattle.slots.proofs.stream.open_stream.Goals as goal
 
 pub returns-then-stream-le15 : goal.returns-then-stream-le15

@@ -1,7 +1,6 @@
 -- `post` meets its contract: the number decides, and the rest is the slot's.
 use Rattle.rnic.specs.Rnic.{rnic_posted}
 use borrow.Author.Tests.{le-leb, lt-leb}
-use borrow.Author.Rules.{rules}
 use Rattle.slots.proofs.stream.post.Goals as goal
 
 pub returns-then-stream-le15 : goal.returns-then-stream-le15

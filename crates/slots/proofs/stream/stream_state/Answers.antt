@@ -11,7 +11,6 @@ use Rattle.rnic.specs.Rnic.{rnic_state}
 use Rattle.block.specs.declared.reads.Tally.{Tally}
 use Rattle.block.specs.declared.sends.Head.{Head}
 use Rattle.slots.proofs.Slots.{phase_of_lem, sends_of, reads_of}
-use borrow.Author.Rules.{rules}
 use Rattle.slots.proofs.stream.stream_state.Goals as goal
 
 pub returns-then-stream-le15 : goal.returns-then-stream-le15

@@ -11,7 +11,7 @@ use Rattle.rdmap.specs.Stream.{with_reads}
 use Rattle.rdmap.specs.Phase.{readiness}
 use borrow.Author.Tests.{eq-eqb, ne_eqb}
 use lib.Dec.{eqb}
-use mathlib.Core.Path.{◌≡◌, sym, ap, ap₂, ◌∙◌}
+use mathlib.Core.Path.{sym, ap, ◌∙◌}
 use borrow.Author.Rules.{rules}
 use Rattle.slots.proofs.stream.take_slot.Goals as goal
 

@@ -3,7 +3,6 @@ use mathlib.Core.Path.{ap, ◌∙◌}
 use lib.Count.{ones}
 use Rattle.memory.proofs.LiveMarks.{ones-live}
 use Rattle.slots.proofs.Windows.{windows_of}
-use borrow.Author.Rules.{rules}
 use Rattle.slots.proofs.window.count_live.Goals as goal
 
 pub returns : goal.returns

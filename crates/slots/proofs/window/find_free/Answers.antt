@@ -3,7 +3,6 @@ use mathlib.Core.Path.{ap, ◌∙◌}
 use Rattle.memory.specs.Marks.{lowest_clear}
 use Rattle.memory.proofs.LiveMarks.{clear_free}
 use Rattle.slots.proofs.Windows.{windows_of, sixteen}
-use borrow.Author.Rules.{rules}
 use Rattle.slots.proofs.window.find_free.Goals as goal
 
 pub returns : goal.returns

@@ -4,7 +4,6 @@ use Rattle.rnic.specs.Rnic.{rnic_free}
 use borrow.Author.Tests.{le-leb, lt-leb}
 use Prim.Native.Nat.{ℕ}
 use mathlib.Core.Path.{ap}
-use borrow.Author.Rules.{rules}
 use Rattle.slots.proofs.window.lowest_free.Goals as goal
 
 pub returns-then-number-le3 : goal.returns-then-number-le3

@@ -1,7 +1,6 @@
 -- `register` meets its contract: the number decides, and the rest is the slot's.
 use Rattle.rnic.specs.Rnic.{rnic_registered}
 use borrow.Author.Tests.{le-leb, lt-leb}
-use borrow.Author.Rules.{rules}
 use Rattle.slots.proofs.window.register.Goals as goal
 
 pub returns-then-window-le63 : goal.returns-then-window-le63

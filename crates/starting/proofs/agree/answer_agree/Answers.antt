@@ -1,18 +1,10 @@
 -- `answer_agree` meets its contract: the words are counted, and both sides' terms are read, as the definition has it.
-use Prim.Native.Nat.{ℕ}
-use mathlib.Core.Path.{◌≡◌, sym, ap, ◌∙◌}
-use mathlib.Core.Bool.{true, false}
-use mathlib.Core.List.{List}
-use lib.Dec.{eqb}
-use lib.ListN.{length}
-use Rattle.script.specs.Number.{number_of}
-use Rattle.command.specs.Args.{words_at, word_of}
+use mathlib.Core.Path.{sym, ap, ◌∙◌}
+use mathlib.Core.Bool.{false}
 use Rattle.command.proofs.Read.{counted, other_count}
-use Rattle.starting.specs.Starting.{terms_for, agree_answer}
-use Rattle.starting.specs.declared.said.Said.{Said}
+use Rattle.starting.specs.Starting.{agree_answer}
 use Rattle.starting.specs.declared.agree.Agreement.TheVariants.{Answer}
 use Rattle.starting.proofs.Asked.{said_as}
-use borrow.Author.Rules.{rules}
 use Rattle.starting.proofs.agree.answer_agree.Goals as goal
 
 pub returns-then-words-ne8 : goal.returns-then-words-ne8

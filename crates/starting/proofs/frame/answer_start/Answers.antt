@@ -1,7 +1,6 @@
 -- `answer_start` meets its contract: each command is answered by what the writer or the reader that it calls ensures.
 use mathlib.Core.Path.{ap}
 use Rattle.starting.specs.declared.frame.StartAnswer.TheVariants.{Wrote, Read}
-use borrow.Author.Rules.{rules}
 use Rattle.starting.proofs.frame.answer_start.Goals as goal
 
 pub returns-in-Write : goal.returns-in-Write

@@ -4,7 +4,6 @@ use mathlib.Core.List.{List}
 use Rattle.wire.specs.Wire.{same}
 use Rattle.command.proofs.Read.{read_as}
 use Rattle.starting.specs.Starting.{startup2_name, unstartup2_name, command_asked}
-use borrow.Author.Rules.{rules}
 use Rattle.starting.proofs.frame.ask_command.Goals as goal
 
 pub returns-then-same : goal.returns-then-same

@@ -1,7 +1,6 @@
 -- `ask_start` meets its contract: the command with the count of its bytes, which were written, or no command.
 use Rattle.command.specs.Args.{words_at}
 use Rattle.starting.proofs.Asked.{asked_hex, asked-none}
-use borrow.Author.Rules.{rules}
 use Rattle.starting.proofs.frame.ask_start.Goals as goal
 
 pub returns-then-hex : goal.returns-then-hex

@@ -2,7 +2,6 @@
 use mathlib.Core.Path.{sym, ◌∙◌}
 use Rattle.command.proofs.Read.{counted, other_count}
 use Rattle.starting.specs.Starting.{startup2_asked}
-use borrow.Author.Rules.{rules}
 use Rattle.starting.proofs.frame.ask_startup2.Goals as goal
 
 pub returns-then-words-eq6 : goal.returns-then-words-eq6

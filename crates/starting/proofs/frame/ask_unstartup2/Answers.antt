@@ -2,7 +2,6 @@
 use Rattle.command.specs.Frames.{reply_of}
 use Rattle.command.proofs.Read.{counted, other_count, read_as}
 use Rattle.starting.specs.Starting.{unstartup2_asked}
-use borrow.Author.Rules.{rules}
 use Rattle.starting.proofs.frame.ask_unstartup2.Goals as goal
 
 pub returns-then-words-ne3 : goal.returns-then-words-ne3

@@ -1,14 +1,8 @@
 -- `ask_write` meets its contract: the three flags and ROOM are read as the definition has it.
-use Prim.Native.Nat.{ℕ}
-use mathlib.Core.Path.{◌≡◌}
-use mathlib.Core.List.{List}
 use Rattle.script.specs.Number.{number_of}
-use Rattle.command.specs.Args.{words_at, word_of}
 use Rattle.command.specs.Frames.{reply_of, bit_of}
-use Rattle.command.specs.declared.args.Flag.{Flag}
 use Rattle.command.proofs.Read.{read_as}
 use Rattle.starting.specs.Starting.{write_asked}
-use borrow.Author.Rules.{rules}
 use Rattle.starting.proofs.frame.ask_write.Goals as goal
 
 pub returns-in_default : goal.returns-in_default

@@ -2,7 +2,6 @@
 use Prim.Native.Nat.{ℕ}
 use mathlib.Core.Path.{ap, ◌∙◌}
 use Rattle.command.specs.Args.{words_at, word_of}
-use borrow.Author.Rules.{rules}
 use Rattle.starting.proofs.frame.hex_word.Goals as goal
 
 pub returns-in-Write : goal.returns-in-Write

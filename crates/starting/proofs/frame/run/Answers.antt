@@ -7,7 +7,6 @@ use lib.Seq.{length-take-le}
 use Rattle.command.specs.Args.{words_at}
 use Rattle.starting.specs.declared.frame.StartAsked.{StartAsked}
 use Rattle.starting.proofs.Asked.{size-within}
-use borrow.Author.Rules.{rules}
 use Rattle.starting.proofs.frame.run.Goals as goal
 
 pub slice_bounds-answer_start-end : goal.slice_bounds-answer_start-end

@@ -1,6 +1,5 @@
 -- `numbers_said` meets its contract: each word is read as the definition has it.
 use mathlib.Core.Path.{sym, ◌∙◌}
-use borrow.Author.Rules.{rules}
 use Rattle.starting.proofs.said.numbers_said.Goals as goal
 
 pub returns-in_default : goal.returns-in_default

@@ -4,7 +4,6 @@ use Rattle.command.specs.Frames.{bit_of}
 use Rattle.command.proofs.Read.{read_as}
 use Rattle.starting.specs.Starting.{terms_said}
 use Rattle.starting.proofs.Asked.{said_as}
-use borrow.Author.Rules.{rules}
 use Rattle.starting.proofs.said.terms_said.Goals as goal
 
 pub returns-in_default : goal.returns-in_default
