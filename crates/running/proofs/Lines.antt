@@ -8,7 +8,7 @@ use mathlib.Core.List.{List, [], ◌∷◌, ◌++◌}
 use lib.ListN.{length, take, drop}
 use Rattle.calls.specs.Call.{called, called_store}
 use Rattle.rnic.specs.declared.Rnic.{Rnic}
-use Rattle.request.specs.Request.{Request, call_by, asked_of, Says}
+use Rattle.request.specs.Request.{Request, call_by, Says}
 use Rattle.request.specs.Request.Request.{call, fill, text}
 use Rattle.request.specs.declared.Asked.{Asked}
 use Rattle.running.specs.Run.{State, state_after, store_then}

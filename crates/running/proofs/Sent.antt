@@ -1,7 +1,7 @@
 -- A command on messages asks nothing of the device and the store.
 -- Assumes nothing.
 use Prim.Native.Nat.{ℕ}
-use mathlib.Core.Bool.{Bool, true, false, true≢false, false≢true}
+use mathlib.Core.Bool.{Bool, true, false, true≢false}
 use mathlib.Core.Path.{◌≡◌, refl, sym, ap, ◌∙◌}
 use mathlib.Core.List.{List, [], ◌∷◌}
 use lib.ListN.{length}
@@ -14,7 +14,7 @@ use Rattle.command.specs.Frames.{is_frame}
 use Rattle.sums.specs.Sums.{is_sum}
 use Rattle.starting.specs.Starting.{is_start}
 use Rattle.sending.specs.Sending.{message_name, segment_name, is_order}
-use Rattle.request.specs.Request.{Request, gauge_shape, shape_of, ask_numbers, ask_call, ask_device, is_silent, request_of}
+use Rattle.request.specs.Request.{gauge_shape, shape_of, ask_numbers, ask_call, ask_device, is_silent, request_of}
 use Rattle.request.specs.Request.Request.{text}
 
 pick_same : {A : Type 0} (t : Bool) (x y : A) → y ≡ x → pick t x y ≡ x

@@ -2,7 +2,6 @@
 use mathlib.Core.Path.{refl, sym}
 use lib.ListN.{length}
 use lib.Seq.{length-take-le}
-use borrow.Author.Rules.{rules}
 use Rattle.block.specs.Device.{rnic_at}
 use Rattle.offering.specs.Offering.{offering_of}
 use Rattle.running.proofs.Offers.{offer-within, offer-asked, held-asked, bad-asked, done_as}

@@ -1,5 +1,4 @@
 -- `run_offering` meets its contract: the line does what `answer_offering` says, and what is lent later stays.
-use borrow.Author.Rules.{rules}
 use Rattle.running.proofs.Offers.{kept_as}
 use Rattle.running.proofs.offer.run_offering.Goals as goal
 

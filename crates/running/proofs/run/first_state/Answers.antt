@@ -2,7 +2,6 @@
 use mathlib.Core.Path.{ap}
 use Rattle.rnic.specs.declared.Rnic.{Rnic}
 use Rattle.running.specs.Run.{State}
-use borrow.Author.Rules.{rules}
 use Rattle.running.proofs.run.first_state.Goals as goal
 
 pub returns : goal.returns

@@ -1,6 +1,5 @@
 -- `run_asked` meets its contract: a line that is not too long does what `ask` says of it, and the call that it asks for is made.
-use mathlib.Core.Path.{refl, sym}
-use native.Mathlib.Omega.{arith}
+use mathlib.Core.Path.{sym}
 use lib.ListN.{length, take}
 use lib.Seq.{length-take-le}
 use borrow.Author.Rules.{rules}

@@ -1,7 +1,6 @@
 -- `run_line` meets its contract: a command on offers is run as `run_offering` does it, and every other line as `run_other` does it.
 use mathlib.Core.Path.{sym, ◌∙◌}
 use lib.Seq.{length-take-le}
-use borrow.Author.Rules.{rules}
 use Rattle.running.proofs.Offers.{offers_fit, offers_unsent}
 use Rattle.running.proofs.run.run_line.Goals as goal
 

@@ -1,5 +1,5 @@
 -- `run_other` meets its contract: a command on messages is run on the message and on nothing else, and every other line as `run_asked` does it.
-use mathlib.Core.Path.{refl, sym, ◌∙◌}
+use mathlib.Core.Path.{sym, ◌∙◌}
 use lib.ListN.{length, take}
 use lib.Seq.{length-take-le}
 use borrow.Author.Tests.{le-leb, lt-leb}
