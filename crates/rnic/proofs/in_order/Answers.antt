@@ -1,4 +1,4 @@
--- `in_order_lem` meets its contract: each test is one of those of `in_order`, and what the earlier ones left holds.
+-- `in_order` meets its contract: each test is one of those of `in_order`, and what the earlier ones left holds.
 use lib.Dec.{leb-zero}
 use borrow.Author.Tests.{le-leb, lt-leb}
 use Rattle.rnic.proofs.in_order.Goals as goal

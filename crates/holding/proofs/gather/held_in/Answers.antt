@@ -1,4 +1,4 @@
--- `held_in_lem` meets its contract: a count over the room's length stands for all of the room.
+-- `held_in` meets its contract: a count over the room's length stands for all of the room.
 use mathlib.Core.Path.{refl, sym, ap, ◌∙◌}
 use native.Mathlib.Omega.{arith}
 use lib.ListN.{length}
