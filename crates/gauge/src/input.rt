@@ -1,5 +1,5 @@
 // Standard input, read in chunks, and standard output.
-ghost use Rattle.std.specs.Prelude.{◌*◌, ◌≤◌, length};
+ghost use Rattle.std.specs.Prelude.{◌≡◌, ◌*◌, ◌≤◌, length};
 ghost use Rattle.std.specs.Io.{ReadsAtMost};
 
 use super::run::{start, take_chunk, take_rest};
@@ -8,7 +8,8 @@ use std::io::{Read, Write};
 
 // Reads some of the input into the chunk, says so where that fails, and answers how many bytes came, 0 at the end.
 fn read_chunk(input: &mut impl Read, errors: &mut impl Write, chunk: &mut [u8]) -> io::Result<usize>
-    ensures { ReadsAtMost result chunk.new }
+    ensures read { ReadsAtMost result chunk.new }
+    ensures kept { length chunk.new ≡ length chunk.old }
 {
     let got = input.read(chunk);
     if got.is_err() {

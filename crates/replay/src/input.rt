@@ -1,4 +1,5 @@
 // The script's bytes, read in chunks and parted into lines.
+ghost use Rattle.std.specs.Prelude.{◌≡◌, length};
 ghost use Rattle.std.specs.Io.{ReadsAtMost};
 
 use super::output::flush;
@@ -69,7 +70,8 @@ fn take_chunk(
 
 // Reads some of the script into the chunk, says so where that fails, and answers how many bytes came, 0 at the end.
 fn read_chunk(input: &mut impl Read, errors: &mut impl Write, chunk: &mut [u8]) -> io::Result<usize>
-    ensures { ReadsAtMost result chunk.new }
+    ensures read { ReadsAtMost result chunk.new }
+    ensures kept { length chunk.new ≡ length chunk.old }
 {
     let got = input.read(chunk);
     if got.is_err() {

@@ -1,5 +1,6 @@
 // Why a line is `bad`, said on standard error. The answers stay on standard output.
-ghost use Rattle.std.specs.Prelude.{◌≤◌, length, IfOk};
+ghost use Rattle.std.specs.Prelude.{◌≡◌, ◌≤◌, length, IfOk, OnErr};
+ghost use Rattle.running.specs.Run.{state_at, line_state, line_store, line_rooms, line_message, line_held};
 
 use super::output::{flush, print_answer};
 use holding::gather::ROOMS;
@@ -92,7 +93,9 @@ fn tell_why(
     out: &[u8],
 ) -> io::Result<Told>
     requires { told.gathered ≤ length out.now }
-    ensures { IfOk result (λ t. t.gathered ≤ length out.now) }
+    ensures within { IfOk result (λ t. t.gathered ≤ length out.now) }
+    ensures kept { IfOk result (λ t. t.kept ≡ told.kept) }
+    ensures err { OnErr result (text.new ≡ text.old) }
 {
     let lines = one_more(told.lines);
     if is_bad(text) {
@@ -113,7 +116,8 @@ fn tell_why(
     })
 }
 
-// Runs a line, as `run_line` does, gathers its answer, and says why it is `bad` where it is.
+// Runs a line, as `run_line` does, gathers its answer, and says why it is `bad` where it is. An answer that
+// cannot be written leaves the line run: the store, the second slice and the message are as after it.
 pub fn run_told(
     output: &mut impl Write,
     errors: &mut impl Write,
@@ -131,7 +135,17 @@ pub fn run_told(
     out: &mut [u8],
 ) -> io::Result<Told>
     requires { told.gathered ≤ length out.old }
-    ensures { IfOk result (λ t. t.gathered ≤ length out.old) }
+    ensures within { IfOk result (λ t. t.gathered ≤ length out.old) }
+    ensures state { IfOk result
+        (λ t. state_at t.kept device.new
+        ≡ line_state (state_at told.kept device.old) (length bytes.old) store.old rooms.old line.now count) }
+    ensures rest { store.new
+        ≡ line_store (state_at told.kept device.old) (length bytes.old) store.old rooms.old line.now count }
+    ensures rooms { rooms.new
+        ≡ line_rooms (state_at told.kept device.old) (length bytes.old) store.old rooms.old line.now count }
+    ensures message { message.new
+        ≡ line_message message.old (length held.old) (length bytes.old) (length frame.old) line.now count }
+    ensures held { held.new ≡ line_held held.old (length bytes.old) line.now count }
 {
     let ran = run_line(
         told.kept, device, message, held, line, count, bytes, frame, store, rooms, text,
