@@ -2,7 +2,7 @@
 // is carried on. All of it is over the parts of a domain that it needs, by value: its part of the store, its
 // windows and the one stream. Whatever the bytes are, it answers.
 //
-// Read `Answer` first, what is answered; then `receive_parts` in the module `parts`. The module `placing` puts the
+// Read `Answer` first, what is answered unless it is refused; then `receive_parts` in the module `parts`. The module `placing` puts the
 // payload in its place. The definitions are in specs/Parts.antt.
 #![tactic(auto)]
 
@@ -11,11 +11,10 @@ use ddp::refusal::Refusal;
 pub mod parts;
 pub mod placing;
 
-// What a taken FPDU reports: nothing; a Send that is complete, with its buffer's start, its length
+// What a taken FPDU reports, if anything: a Send that is complete, with its buffer's start, its length
 // and its opcode, and the STag that it invalidated; or a Terminate.
 #[derive(Clone, Copy)]
 pub enum Event {
-    NoEvent,
     Sent {
         start: u32,
         len: u32,
@@ -34,12 +33,11 @@ pub enum Event {
     },
 }
 
-// What receive answers: how many bytes to wait for; the FPDU's total with an event; a refusal of
-// the peer's bytes, which ended the stream; or a local refusal.
+// What receive answers that is not refused: how many bytes to wait for; the FPDU's total with an event, if
+// there is one; or a refusal of the peer's bytes, which ended the stream.
 #[derive(Clone, Copy)]
 pub enum Answer {
     Wait(usize),
-    Taken { total: usize, event: Event },
+    Taken { total: usize, event: Option<Event> },
     Ended(Refusal),
-    Refused(u8),
 }

@@ -25,19 +25,20 @@ ghost use Rattle.rdmap.specs.Sends.{current_buffer};
 use crate::placing::place_by;
 use crate::{Answer, Event};
 use ddp::header::UntaggedHeader;
+use ddp::refusal::Refusal;
 use ddp::segment::{SegmentRead, read_segment};
 use memory::part::Part;
 use memory::window::{Window, slot_named};
 use rdmap::message::{
     Invalidate, Verdict, judge_tagged_segment, judge_untagged_segment, stag_named,
 };
-use rdmap::phase::Readiness;
 use rdmap::stream::Stream;
+use wire::refusal::LocalRefusal;
 
 // What receive answers, the stream after it, and the window that is then dead.
 #[derive(Drop)]
 pub struct PartsReceived {
-    pub answer: Answer,
+    pub answer: Result<Answer, LocalRefusal>,
     pub stream: Stream,
     pub invalidate: Invalidate,
 }
@@ -46,67 +47,70 @@ pub struct PartsReceived {
 #[derive(Drop)]
 pub enum Judged {
     Wait(usize),
-    Fpdu(usize, Verdict),
+    Fpdu(usize, Result<Verdict, Refusal>),
 }
 
 // The event of a Send that is complete.
-pub fn sent_event(start: u32, len: u32, opcode: u8, which: Invalidate) -> Event
+pub fn sent_event(start: u32, len: u32, opcode: u8, which: Invalidate) -> Option<Event>
     ensures { result ≡ sent_event start len opcode which }
 {
     match which {
-        Invalidate::NoStag => Event::Sent { start, len, opcode },
-        Invalidate::Stag { slot: _, stag } => Event::SentInvalidating {
+        None => Some(Event::Sent { start, len, opcode }),
+        Some((_, stag)) => Some(Event::SentInvalidating {
             start,
             len,
             opcode,
             stag,
-        },
+        }),
     }
 }
 
 // An FPDU is taken, with an event.
-fn taken(s: Stream, total: usize, event: Event, which: Invalidate) -> PartsReceived
+fn taken(s: Stream, total: usize, event: Option<Event>, which: Invalidate) -> PartsReceived
     ensures { result ≡ parts_taken s total event which }
 {
     PartsReceived {
-        answer: Answer::Taken { total, event },
+        answer: Ok(Answer::Taken { total, event }),
         stream: s,
         invalidate: which,
     }
 }
 
 // What a verdict makes of the stream, and the answer.
-fn apply(s: Stream, total: usize, verdict: Verdict) -> PartsReceived
+#[tactic(auto, unfolding(crate::specs::Parts::parts_applied))]
+fn apply(s: Stream, total: usize, verdict: Result<Verdict, Refusal>) -> PartsReceived
     ensures { result ≡ parts_applied s total verdict }
 {
-    let none = Invalidate::NoStag;
     match verdict {
-        Verdict::Refused(refusal) => PartsReceived {
-            answer: Answer::Ended(refusal),
+        Err(refusal) => PartsReceived {
+            answer: Ok(Answer::Ended(refusal)),
             stream: s.end(refusal),
-            invalidate: none,
+            invalidate: None,
         },
-        Verdict::Nothing => taken(s, total, Event::NoEvent, none),
-        Verdict::Write(_) => taken(s, total, Event::NoEvent, none),
-        Verdict::SendMore {
-            at: _,
-            opcode,
-            taken: n,
-        } => taken(s.sending(opcode, n), total, Event::NoEvent, none),
-        Verdict::SendLast {
-            at: _,
-            opcode,
-            start,
-            len,
-            invalidate: which,
-        } => {
+        Ok(Verdict::Nothing | Verdict::Write(_)) => taken(s, total, None, None),
+        Ok(
+            Verdict::SendMore {
+                opcode,
+                taken: n,
+                ..
+            },
+        ) => taken(s.sending(opcode, n), total, None, None),
+        Ok(
+            Verdict::SendLast {
+                opcode,
+                start,
+                len,
+                invalidate: which,
+                ..
+            },
+        ) => {
             let event = sent_event(start, len, opcode, which);
             taken(s.sent(), total, event, which)
         }
-        Verdict::Read(read) => taken(s.queued(read), total, Event::NoEvent, none),
-        Verdict::Terminate { layer, etype, code } => {
+        Ok(Verdict::Read(read)) => taken(s.queued(read), total, None, None),
+        Ok(Verdict::Terminate { layer, etype, code }) => {
             let event = Event::Terminated { layer, etype, code };
-            taken(s.terminated(), total, event, none)
+            taken(s.terminated(), total, Some(event), None)
         }
     }
 }
@@ -118,7 +122,7 @@ fn judge_untagged(
     s: Stream,
     h: UntaggedHeader,
     payload: &[u8],
-) -> Verdict
+) -> Result<Verdict, Refusal>
     ensures { result ≡ untagged_verdict (window_at windows (slot_named (stag_named h payload.now))) number s.sends.opcode (current_buffer s.sends) h payload.now (untagged_of (queue_of s h.qn) h.qn h.msn h.mo (length payload.now)) }
 {
     let w = windows[slot_named(stag_named(h, payload))];
@@ -130,6 +134,7 @@ fn judge_untagged(
 
 // Judges the first FPDU of bytes for an open stream of the domain of this number, and places its
 // payload in the domain's bytes, which are lent.
+#[tactic(auto, using(crate::proofs::Inside::lent))]
 fn judge_first(
     part: Part,
     windows: [Window; 16],
@@ -142,47 +147,52 @@ fn judge_first(
 {
     let framing = s.framing;
     match read_segment(framing.crc, bytes) {
-        SegmentRead::Wait(n) => Judged::Wait(n),
-        SegmentRead::Refused(refusal) => Judged::Fpdu(0, Verdict::Refused(refusal)),
-        SegmentRead::Tagged {
-            total,
-            header,
-            start,
-            len,
-        } => {
-            let end = start + len;
+        Ok(SegmentRead::Wait(n)) => Judged::Wait(n),
+        Err(refusal) => Judged::Fpdu(0, Err(refusal)),
+        Ok(
+            SegmentRead::Tagged {
+                total,
+                header,
+                start,
+                len,
+            },
+        ) => {
+            let payload = &bytes[start..start + len];
             let w = windows[slot_named(header.stag)];
             let verdict = judge_tagged_segment(w, number, header, len as u64);
-            place_by(store, part.start, verdict, &bytes[start..end]);
+            place_by(store, part.start, verdict, payload);
             Judged::Fpdu(total, verdict)
         }
-        SegmentRead::Untagged {
-            total,
-            header,
-            start,
-            len,
-        } => {
-            let end = start + len;
-            let verdict = judge_untagged(windows, number, s, header, &bytes[start..end]);
-            place_by(store, part.start, verdict, &bytes[start..end]);
+        Ok(
+            SegmentRead::Untagged {
+                total,
+                header,
+                start,
+                len,
+            },
+        ) => {
+            let payload = &bytes[start..start + len];
+            let verdict = judge_untagged(windows, number, s, header, payload);
+            place_by(store, part.start, verdict, payload);
             Judged::Fpdu(total, verdict)
         }
     }
 }
 
 // The stream as it was, with an answer.
-fn unchanged(s: Stream, answer: Answer) -> PartsReceived
+fn unchanged(s: Stream, answer: Result<Answer, LocalRefusal>) -> PartsReceived
     ensures { result ≡ parts_unchanged s answer }
 {
     PartsReceived {
         answer,
         stream: s,
-        invalidate: Invalidate::NoStag,
+        invalidate: None,
     }
 }
 
 // Takes the first FPDU of bytes for a stream of the domain of this number, of which these are the
 // part, the windows and the stream; the domain's bytes are lent.
+#[tactic(auto, unfolding(crate::specs::Parts::parts_received, crate::specs::Parts::parts_received_bytes))]
 pub fn receive_parts(
     part: Part,
     windows: [Window; 16],
@@ -195,11 +205,11 @@ pub fn receive_parts(
 {
     let phase = s.phase;
     match phase.ready() {
-        Readiness::Ready => match judge_first(part, windows, s, number, store, bytes) {
-            Judged::Wait(n) => unchanged(s, Answer::Wait(n)),
+        Ok(()) => match judge_first(part, windows, s, number, store, bytes) {
+            Judged::Wait(n) => unchanged(s, Ok(Answer::Wait(n))),
             Judged::Fpdu(total, verdict) => apply(s, total, verdict),
         },
-        Readiness::NotReady(refusal) => unchanged(s, Answer::Refused(refusal)),
+        Err(refusal) => unchanged(s, Err(refusal)),
     }
 }
 
@@ -208,10 +218,10 @@ pub fn kill(windows: [Window; 16], which: Invalidate) -> [Window; 16]
     ensures { result ≡ killed which windows }
 {
     match which {
-        Invalidate::NoStag => windows,
-        Invalidate::Stag { slot, stag: _ } => {
-            let done = memory::window::drop_window(windows, slot as u64);
-            done.windows
+        None => windows,
+        Some((slot, _)) => {
+            let (_, after) = memory::window::drop_window(windows, slot as u64);
+            after
         }
     }
 }

@@ -2,9 +2,11 @@
 ghost use Rattle.std.specs.Prelude.{◌≡◌};
 ghost use Rattle.arrival.specs.Parts.{placed_from, applied_bytes};
 
+use ddp::refusal::Refusal;
 use rdmap::message::Verdict;
 
 // Places a payload at a place of the store in the domain's bytes, which start at start.
+#[tactic(auto, unfolding(crate::specs::Parts::placed_from))]
 pub fn place_from(bytes: &mut [u8], start: u32, at: u64, payload: &[u8])
     ensures { bytes.new ≡ placed_from start at payload.now bytes.old }
 {
@@ -15,30 +17,14 @@ pub fn place_from(bytes: &mut [u8], start: u32, at: u64, payload: &[u8])
 }
 
 // What a verdict makes of the domain's bytes.
-pub fn place_by(bytes: &mut [u8], start: u32, verdict: Verdict, payload: &[u8])
+#[tactic(auto, unfolding(crate::specs::Parts::applied_bytes))]
+pub fn place_by(bytes: &mut [u8], start: u32, verdict: Result<Verdict, Refusal>, payload: &[u8])
     ensures { bytes.new ≡ applied_bytes start verdict payload.now bytes.old }
 {
     match verdict {
-        Verdict::Refused(_) => {}
-        Verdict::Nothing => {}
-        Verdict::Write(at) => place_from(bytes, start, at, payload),
-        Verdict::SendMore {
-            at,
-            opcode: _,
-            taken: _,
-        } => place_from(bytes, start, at, payload),
-        Verdict::SendLast {
-            at,
-            opcode: _,
-            start: _,
-            len: _,
-            invalidate: _,
-        } => place_from(bytes, start, at, payload),
-        Verdict::Read(_) => {}
-        Verdict::Terminate {
-            layer: _,
-            etype: _,
-            code: _,
-        } => {}
+        Ok(Verdict::Write(at) | Verdict::SendMore { at, .. } | Verdict::SendLast { at, .. }) => {
+            place_from(bytes, start, at, payload)
+        }
+        Ok(Verdict::Nothing | Verdict::Read(_) | Verdict::Terminate { .. }) | Err(_) => {}
     }
 }

@@ -1,13 +1,12 @@
 -- A block of zeros holds the device that a refused opening gives: every group of zeros is the empty one.
 use Prim.Native.Nat.{ℕ, ◌+◌, ◌-◌, ◌<◌, ◌≤◌}
-use mathlib.Core.List.{List, [], ◌∷◌, ◌++◌, append_assoc}
+use mathlib.Core.List.{List, [], ◌∷◌, ◌++◌, append_assoc, append-nil}
 use mathlib.Core.Bool.{false}
 use mathlib.Core.Path.{◌≡◌, sym, ap, ◌∙◌}
 use native.Mathlib.Omega.{arith}
-use lib.ListN.{length, get_or, take, drop, replicate, length-replicate, replicate-append-replicate}
+use lib.ListN.{get_or, take, replicate, length-replicate, replicate-append-replicate}
 use lib.Seq.{take_at, drop_at}
-use Rattle.wire.specs.Wire.{part, put}
-use Rattle.wire.proofs.Laws.{put-start}
+use Rattle.wire.specs.Wire.{part}
 use Rattle.memory.specs.Window.{no_window}
 use Rattle.rdmap.specs.Stream.{closed_stream}
 use Rattle.meter.specs.Gauge.{new_meter}
@@ -38,9 +37,8 @@ part-zeros l n b m h =
     ∙ ap (λ (x : List ℕ). take m x) (drop_at (replicate b 0) (replicate m 0 ++ rest) b (length-replicate b 0))
     ∙ take_at (replicate m 0) rest m (length-replicate m 0)
 
-pub zeros-put : (w v : List ℕ) (n : ℕ) → v ≡ put w 0 (replicate n 0) → (b m : ℕ) → b + m ≤ n → part v b m ≡ replicate m 0
-zeros-put w v n is b m h =
-    ap (λ (x : List ℕ). part x b m) (is ∙ put-start w (replicate n 0)) ∙ part-zeros (drop (length (replicate n 0)) w) n b m h
+pub zeros-all : (v : List ℕ) (n : ℕ) → v ≡ replicate n 0 → (b m : ℕ) → b + m ≤ n → part v b m ≡ replicate m 0
+zeros-all v n is b m h = ap (λ (x : List ℕ). part x b m) (is ∙ sym (append-nil (replicate n 0))) ∙ part-zeros [] n b m h
 
 -- a meter of zeros is a new one
 meter_zeros : meter_of (0 ∷ 0 ∷ 0 ∷ []) ≡ new_meter

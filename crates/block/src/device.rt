@@ -7,16 +7,16 @@ ghost use Rattle.block.specs.Words.{pair_word, part_in, part_words};
 ghost use Rattle.block.specs.Exchange.{rnic_of};
 ghost use Rattle.block.specs.Device.{loaded_len, stored_len, loaded_part, stored_part, rnic_at};
 
-use crate::copy::{clear, store_word};
-use crate::layout::{BLOCK_WORDS, domain_offset};
+use crate::layout::domain_offset;
 use crate::pack::{lower, pair, upper};
+use crate::store::store_word;
 use memory::part::Part;
 
 // Clears the block: the device has length 0, no window is live and no stream is open.
 pub fn clear_block(words: &mut [u64; 945])
     ensures { rnic_at words.new ≡ empty_rnic }
 {
-    clear(words, 0, BLOCK_WORDS);
+    words.fill(0);
 }
 
 // Loads the length of the store.

@@ -9,9 +9,9 @@ ghost use Rattle.block.specs.Stream.{
   stored_framing,
 };
 
-use crate::copy::store_word;
 use crate::layout::{FRAMING, stream_offset};
 use crate::pack::flag;
+use crate::store::store_word;
 use rdmap::framing::Framing;
 
 // The framing in a word.

@@ -8,7 +8,6 @@
 // says that storing a group changes that group of the device and nothing else.
 #![tactic(auto)]
 
-mod copy;
 pub mod device;
 pub mod framing;
 pub mod layout;
@@ -17,6 +16,7 @@ mod pack;
 pub mod phase;
 pub mod reads;
 pub mod sends;
+mod store;
 pub mod stream;
 pub mod terminates;
 pub mod window;

@@ -5,10 +5,11 @@ ghost use Rattle.meter.specs.Words.{meter_of};
 ghost use Rattle.block.specs.Layout.{block_words};
 ghost use Rattle.block.specs.Device.{loaded_meter, stored_meter, stored_count};
 
-use crate::copy::{copy, store_word};
 use crate::layout::{METER_WORDS, meter_offset};
+use crate::store::store_word;
 use meter::Meter;
 use meter::words::{counted_word, encode};
+use wire::copy::copy;
 
 // The meter in its words.
 fn decode(g: &[u64]) -> Meter

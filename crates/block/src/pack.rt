@@ -27,5 +27,5 @@ pub(crate) fn upper(x: u64) -> u32
 pub(crate) fn flag(b: bool) -> u64
     ensures { (result ≡ flag_word b) × (result ≤ 1) × (flag_in result ≡ b) }
 {
-    if b { 1 } else { 0 }
+    b as u64
 }

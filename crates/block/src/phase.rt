@@ -9,8 +9,8 @@ ghost use Rattle.block.specs.Stream.{
   stored_phase,
 };
 
-use crate::copy::store_word;
 use crate::layout::stream_offset;
+use crate::store::store_word;
 use ddp::refusal::Refusal;
 use rdmap::phase::Phase;
 

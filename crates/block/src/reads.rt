@@ -12,10 +12,11 @@ ghost use Rattle.block.specs.Queue.{
 };
 ghost use Rattle.block.specs.Stream.{loaded_reads, stored_reads};
 
-use crate::copy::{copy, store_word};
 use crate::layout::{READS, READS_WORDS, stream_offset};
 use crate::pack::{lower, pair, upper};
+use crate::store::store_word;
 use rdmap::read::{ReadRequest, Reads};
+use wire::copy::copy;
 
 // The next MSN of the reads, and how many wait.
 #[derive(Drop)]

@@ -5,11 +5,11 @@ ghost use Rattle.block.specs.Words.{buffer_in, buffer_word};
 ghost use Rattle.block.specs.Queue.{buffers_in, sends_in, sends_words, head_of};
 ghost use Rattle.block.specs.Stream.{loaded_sends, stored_sends};
 
-use crate::copy::copy;
 use crate::layout::{SENDS, SENDS_WORDS, stream_offset};
 use crate::pack::{lower, pair, upper};
 use memory::buffer::{Buffer, Buffers};
 use rdmap::sends::Sends;
+use wire::copy::copy;
 
 // What the next segment of a Send asks of the sends: the next MSN, the opcode of a Send under way and how
 // many of its bytes are taken, how many buffers wait, and the one that is filled.

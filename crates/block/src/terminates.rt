@@ -4,9 +4,9 @@ ghost use Rattle.block.specs.Layout.{block_words};
 ghost use Rattle.block.specs.Queue.{terminates_in, terminates_words};
 ghost use Rattle.block.specs.Stream.{loaded_terminates, stored_terminates};
 
-use crate::copy::store_word;
 use crate::layout::{TERMINATES, stream_offset};
 use crate::pack::lower;
+use crate::store::store_word;
 use rdmap::terminates::Terminates;
 
 // The terminates in a word.

@@ -4,10 +4,10 @@ ghost use Rattle.block.specs.Layout.{block_words};
 ghost use Rattle.block.specs.Words.{window_in, access_word, window_words};
 ghost use Rattle.block.specs.Device.{loaded_window, stored_window};
 
-use crate::copy::copy;
 use crate::layout::{WINDOW_WORDS, window_offset};
 use crate::pack::{flag, lower, pair, upper};
 use memory::window::Window;
+use wire::copy::copy;
 
 // The window in its words.
 fn decode(g: &[u64]) -> Window

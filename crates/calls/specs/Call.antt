@@ -4,8 +4,10 @@ use Rattle.wire.specs.Wire.{pick}
 use Rattle.rnic.specs.Rnic.{opened_rnic, rnic_opened, rnic_closed, rnic_posted, rnic_taken, rnic_state, rnic_received, rnic_received_store, rnic_registered, rnic_dropped, rnic_live, rnic_free, rnic_ticked, rnic_reading}
 use Rattle.rnic.specs.Offer.{rnic_offered, rnic_offer_answer}
 use Rattle.rnic.specs.declared.Rnic.{Rnic}
-use Rattle.rnic.specs.declared.RnicDone.{RnicDone}
 use Rattle.calls.specs.Words.{refused_words, outcome_words, close_words, take_words, count_words, reading_words, state_words, answer_words, offer_words}
+use Rattle.wire.specs.declared.refusal.LocalRefusal.TheVariants.{OutOfRange}
+use Rattle.std.specs.Prelude.{Result, ⊤}
+use Rattle.wire.specs.declared.refusal.LocalRefusal.{LocalRefusal}
 
 -- the device after a call, and the answer's words
 pub record Called : Type 0 where
@@ -18,8 +20,8 @@ arg a i = get_or a i 0
 
 -- ---- one call each, of its arguments
 
-abbrev pub done : RnicDone → Called
-done r = record { rnic = r.rnic; words = outcome_words r.outcome }
+abbrev pub done : (Result ⊤ LocalRefusal × Rnic) → Called
+done r = record { rnic = r.1; words = outcome_words r.0 }
 
 abbrev pub called_open : List ℕ → Called
 called_open a = done (opened_rnic (arg a 0) (arg a 1) (arg a 2) (arg a 3) (arg a 4) (arg a 5) (arg a 6) (arg a 7) (arg a 8))
@@ -32,7 +34,7 @@ abbrev pub called_open_stream : Rnic → List ℕ → Called
 called_open_stream b a = done (rnic_opened b (arg a 0) (crc_on (arg a 1)))
 
 abbrev pub called_close_stream : Rnic → List ℕ → Called
-called_close_stream b a = record { rnic = (rnic_closed b (arg a 0)).rnic; words = close_words (rnic_closed b (arg a 0)).answer }
+called_close_stream b a = record { rnic = (rnic_closed b (arg a 0)).1; words = close_words (rnic_closed b (arg a 0)).0 }
 
 abbrev pub called_register : Rnic → List ℕ → Called
 called_register b a = done (rnic_registered b (arg a 0) (arg a 1) (arg a 2) (arg a 3) (arg a 4) (arg a 5))
@@ -44,23 +46,23 @@ abbrev pub called_post : Rnic → List ℕ → Called
 called_post b a = done (rnic_posted b (arg a 0) (arg a 1) (arg a 2))
 
 abbrev pub called_take : Rnic → List ℕ → Called
-called_take b a = record { rnic = (rnic_taken b (arg a 0)).rnic; words = take_words (rnic_taken b (arg a 0)).answer }
+called_take b a = record { rnic = (rnic_taken b (arg a 0)).1; words = take_words (rnic_taken b (arg a 0)).0 }
 
 abbrev pub called_tick : Rnic → List ℕ → Called
 called_tick b a = done (rnic_ticked b (arg a 0))
 
 abbrev pub called_receive : Rnic → ℕ → ℕ → List ℕ → Called
-called_receive b size stream input = record { rnic = (rnic_received b size stream input).rnic; words = answer_words (rnic_received b size stream input).answer }
+called_receive b size stream input = record { rnic = (rnic_received b size stream input).1; words = answer_words (rnic_received b size stream input).0 }
 
 -- an offer, which has no number: it is lent a second slice
 abbrev pub called_offer : Rnic → ℕ → ℕ → List ℕ → List ℕ → Called
-called_offer b size stream rooms input = record { rnic = (rnic_offered b size stream rooms input).rnic; words = offer_words (rnic_offer_answer b size stream rooms input) }
+called_offer b size stream rooms input = record { rnic = (rnic_offered b size stream rooms input).1; words = offer_words (rnic_offer_answer b size stream rooms input) }
 
 -- ---- the numbers
 
 -- no call has this number: a local refusal 1, and nothing changes
 abbrev pub not_called : Rnic → Called
-not_called b = record { rnic = b; words = refused_words 1 }
+not_called b = record { rnic = b; words = refused_words OutOfRange }
 
 unfoldable pub called : Rnic → ℕ → ℕ → List ℕ → List ℕ → Called
 called b size number a input =

@@ -21,6 +21,7 @@ mod one;
 pub mod words;
 
 // The call of a number, with its nine numbers, its bytes and the store; the answer's words.
+#[tactic(auto, unfolding(crate::specs::Call::called, crate::specs::Call::called_store, wire::specs::Refusal::refusal_number))]
 pub fn call(
     b: Rnic,
     store: &mut [u8],

@@ -25,71 +25,63 @@ use rnic::Rnic;
 pub(crate) fn call_open(a: &[u64; 9], answer: &mut [u64; 8]) -> Rnic
     ensures { (result ≡ (called_open a.now).rnic) × (answer.new ≡ (called_open a.now).words) }
 {
-    let done = rnic::open(a[0], a[1], a[2], a[3], a[4], a[5], a[6], a[7], a[8]);
-    let outcome = done.outcome;
+    let (outcome, rnic) = rnic::open(a[0], a[1], a[2], a[3], a[4], a[5], a[6], a[7], a[8]);
     *answer = outcome_words(outcome);
-    done.rnic
+    rnic
 }
 
 // Opens a stream; the CRC is off where the second number is 0.
 pub(crate) fn call_open_stream(b: Rnic, a: &[u64; 9], answer: &mut [u64; 8]) -> Rnic
     ensures { (result ≡ (called_open_stream b a.now).rnic) × (answer.new ≡ (called_open_stream b a.now).words) }
 {
-    let crc = a[1];
-    let done = rnic::open_stream(b, a[0], crc != 0);
-    let outcome = done.outcome;
+    let (outcome, rnic) = rnic::open_stream(b, a[0], a[1] != 0);
     *answer = outcome_words(outcome);
-    done.rnic
+    rnic
 }
 
 // Closes a stream.
 pub(crate) fn call_close_stream(b: Rnic, a: &[u64; 9], answer: &mut [u64; 8]) -> Rnic
     ensures { (result ≡ (called_close_stream b a.now).rnic) × (answer.new ≡ (called_close_stream b a.now).words) }
 {
-    let done = rnic::close_stream(b, a[0]);
-    let closed = done.answer;
-    *answer = close_words(closed);
-    done.rnic
+    let (told, rnic) = rnic::close_stream(b, a[0]);
+    *answer = close_words(told);
+    rnic
 }
 
 // Registers a window.
 pub(crate) fn call_register(b: Rnic, a: &[u64; 9], answer: &mut [u64; 8]) -> Rnic
     ensures { (result ≡ (called_register b a.now).rnic) × (answer.new ≡ (called_register b a.now).words) }
 {
-    let done = rnic::register(b, a[0], a[1], a[2], a[3], a[4], a[5]);
-    let outcome = done.outcome;
+    let (outcome, rnic) = rnic::register(b, a[0], a[1], a[2], a[3], a[4], a[5]);
     *answer = outcome_words(outcome);
-    done.rnic
+    rnic
 }
 
 // Drops a window.
 pub(crate) fn call_drop_window(b: Rnic, a: &[u64; 9], answer: &mut [u64; 8]) -> Rnic
     ensures { (result ≡ (called_drop_window b a.now).rnic) × (answer.new ≡ (called_drop_window b a.now).words) }
 {
-    let done = rnic::drop_window(b, a[0]);
-    let outcome = done.outcome;
+    let (outcome, rnic) = rnic::drop_window(b, a[0]);
     *answer = outcome_words(outcome);
-    done.rnic
+    rnic
 }
 
 // Posts a buffer on a stream.
 pub(crate) fn call_post(b: Rnic, a: &[u64; 9], answer: &mut [u64; 8]) -> Rnic
     ensures { (result ≡ (called_post b a.now).rnic) × (answer.new ≡ (called_post b a.now).words) }
 {
-    let done = rnic::post(b, a[0], a[1], a[2]);
-    let outcome = done.outcome;
+    let (outcome, rnic) = rnic::post(b, a[0], a[1], a[2]);
     *answer = outcome_words(outcome);
-    done.rnic
+    rnic
 }
 
 // Takes the oldest read that waits on a stream.
 pub(crate) fn call_take(b: Rnic, a: &[u64; 9], answer: &mut [u64; 8]) -> Rnic
     ensures { (result ≡ (called_take b a.now).rnic) × (answer.new ≡ (called_take b a.now).words) }
 {
-    let done = rnic::take(b, a[0]);
-    let taken = done.answer;
-    *answer = take_words(taken);
-    done.rnic
+    let (told, rnic) = rnic::take(b, a[0]);
+    *answer = take_words(told);
+    rnic
 }
 
 // How many windows of a domain are live.
@@ -116,20 +108,18 @@ pub(crate) fn call_receive(
 ) -> Rnic
     ensures { (result ≡ (called_receive b (length store.old) stream bytes.now).rnic) × (answer.new ≡ (called_receive b (length store.old) stream bytes.now).words) × (store.new ≡ rnic_received_store b stream bytes.now store.old) }
 {
-    let done = rnic::receive(b, store, stream, bytes);
-    let received = done.answer;
-    *answer = answer_words(received);
-    done.rnic
+    let (told, rnic) = rnic::receive(b, store, stream, bytes);
+    *answer = answer_words(told);
+    rnic
 }
 
 // Ticks a domain.
 pub(crate) fn call_tick(b: Rnic, a: &[u64; 9], answer: &mut [u64; 8]) -> Rnic
     ensures { (result ≡ (called_tick b a.now).rnic) × (answer.new ≡ (called_tick b a.now).words) }
 {
-    let done = rnic::tick(b, a[0]);
-    let outcome = done.outcome;
+    let (outcome, rnic) = rnic::tick(b, a[0]);
     *answer = outcome_words(outcome);
-    done.rnic
+    rnic
 }
 
 // What a domain's gauge reads as.

@@ -1,6 +1,6 @@
 // The words of an answer: word 0 says its kind, the next ones are its numbers, those that are left
 // are 0. The kinds stand in specs/Words.antt, and in include/rnic.h for a C program.
-ghost use Rattle.std.specs.Prelude.{◌≡◌, ◌-◌};
+ghost use Rattle.std.specs.Prelude.{◌≡◌, ◌-◌, Ok};
 ghost use Rattle.calls.specs.Words.{
   words as words_of,
   outcome_words,
@@ -19,11 +19,11 @@ ghost use Rattle.calls.specs.Words.{
 
 use arrival::{Answer, Event};
 use ddp::refusal::Refusal;
-use memory::part::Outcome;
 use meter::gauge::Reading;
 use meter::words::level_bits;
-use rdmap::stream::{CloseAnswer, StateAnswer, TakeAnswer};
-use rnic::{Count, ReadingAnswer};
+use rdmap::read::ReadRequest;
+use rdmap::stream::{Left, State};
+use wire::refusal::LocalRefusal;
 
 // A kind and up to five numbers.
 pub fn words(kind: u64, a: u64, b: u64, c: u64, d: u64, e: u64) -> [u64; 8]
@@ -33,31 +33,31 @@ pub fn words(kind: u64, a: u64, b: u64, c: u64, d: u64, e: u64) -> [u64; 8]
 }
 
 // What a call that is done or refused answers.
-pub fn outcome_words(outcome: Outcome) -> [u64; 8]
+pub fn outcome_words(outcome: Result<(), LocalRefusal>) -> [u64; 8]
     ensures { result ≡ outcome_words outcome }
 {
     match outcome {
-        Outcome::Done => words(1, 0, 0, 0, 0, 0),
-        Outcome::Refused(number) => words(0, number as u64, 0, 0, 0, 0),
+        Ok(()) => words(1, 0, 0, 0, 0, 0),
+        Err(refusal) => refused_words(refusal),
     }
 }
 
 // What closing a stream answers.
-pub fn close_words(answer: CloseAnswer) -> [u64; 8]
+pub fn close_words(answer: Result<Left, LocalRefusal>) -> [u64; 8]
     ensures { result ≡ close_words answer }
 {
     match answer {
-        CloseAnswer::Closed { buffers, reads } => words(2, buffers as u64, reads as u64, 0, 0, 0),
-        CloseAnswer::Refused(number) => words(0, number as u64, 0, 0, 0, 0),
+        Ok(left) => words(2, left.buffers as u64, left.reads as u64, 0, 0, 0),
+        Err(refusal) => refused_words(refusal),
     }
 }
 
 // What taking a read answers.
-pub fn take_words(answer: TakeAnswer) -> [u64; 8]
+pub fn take_words(answer: Result<ReadRequest, LocalRefusal>) -> [u64; 8]
     ensures { result ≡ take_words answer }
 {
     match answer {
-        TakeAnswer::Read(read) => words(
+        Ok(read) => words(
             3,
             read.sink_stag as u64,
             read.sink_to,
@@ -65,23 +65,23 @@ pub fn take_words(answer: TakeAnswer) -> [u64; 8]
             read.source_stag as u64,
             read.source_to,
         ),
-        TakeAnswer::Refused(number) => words(0, number as u64, 0, 0, 0, 0),
+        Err(refusal) => refused_words(refusal),
     }
 }
 
 // What a question answers.
-pub fn count_words(count: Count) -> [u64; 8]
+pub fn count_words(count: Result<u32, LocalRefusal>) -> [u64; 8]
     ensures { result ≡ count_words count }
 {
     match count {
-        Count::Counted(n) => words(4, n as u64, 0, 0, 0, 0),
-        Count::Refused(number) => words(0, number as u64, 0, 0, 0, 0),
+        Ok(n) => words(4, n as u64, 0, 0, 0, 0),
+        Err(refusal) => refused_words(refusal),
     }
 }
 
 // What a gauge reads as.
 fn gauge_words(reading: Reading) -> [u64; 8]
-    ensures { result ≡ reading_words (ReadingAnswer.Reads reading) }
+    ensures { result ≡ reading_words (Ok reading) }
 {
     match reading {
         Reading::Quiet => words(12, 0, 0, 0, 0, 0),
@@ -91,18 +91,18 @@ fn gauge_words(reading: Reading) -> [u64; 8]
 }
 
 // What asking for a reading answers.
-pub fn reading_words(answer: ReadingAnswer) -> [u64; 8]
+pub fn reading_words(answer: Result<Reading, LocalRefusal>) -> [u64; 8]
     ensures { result ≡ reading_words answer }
 {
     match answer {
-        ReadingAnswer::Reads(reading) => gauge_words(reading),
-        ReadingAnswer::Refused(number) => refused_words(number),
+        Ok(reading) => gauge_words(reading),
+        Err(refusal) => refused_words(refusal),
     }
 }
 
 // The state of a stream that a refusal of the peer's bytes ended.
 fn ended_state_words(refusal: Refusal, buffers: u32, reads: u32) -> [u64; 8]
-    ensures { result ≡ state_words (StateAnswer.Ended refusal buffers reads) }
+    ensures { result ≡ state_words (Ok (State.Ended refusal buffers reads)) }
 {
     [
         15,
@@ -117,39 +117,43 @@ fn ended_state_words(refusal: Refusal, buffers: u32, reads: u32) -> [u64; 8]
 }
 
 // What asking for a stream's state answers.
-pub fn state_words(answer: StateAnswer) -> [u64; 8]
+pub fn state_words(answer: Result<State, LocalRefusal>) -> [u64; 8]
     ensures { result ≡ state_words answer }
 {
     match answer {
-        StateAnswer::Closed => words(15, 0, 0, 0, 0, 0),
-        StateAnswer::Open { buffers, reads } => words(15, 1, buffers as u64, reads as u64, 0, 0),
-        StateAnswer::Ended {
-            refusal,
-            buffers,
-            reads,
-        } => ended_state_words(refusal, buffers, reads),
-        StateAnswer::Terminated { buffers, reads } => {
+        Ok(State::Closed) => words(15, 0, 0, 0, 0, 0),
+        Ok(State::Open { buffers, reads }) => words(15, 1, buffers as u64, reads as u64, 0, 0),
+        Ok(
+            State::Ended {
+                refusal,
+                buffers,
+                reads,
+            },
+        ) => ended_state_words(refusal, buffers, reads),
+        Ok(State::Terminated { buffers, reads }) => {
             words(15, 3, buffers as u64, reads as u64, 0, 0)
         }
-        StateAnswer::Refused(number) => refused_words(number),
+        Err(refusal) => refused_words(refusal),
     }
 }
 
 // What an FPDU that was taken reports.
-fn event_words(total: u64, event: Event) -> [u64; 8]
+fn event_words(total: u64, event: Option<Event>) -> [u64; 8]
     ensures { result ≡ event_words total event }
 {
     match event {
-        Event::NoEvent => words(6, total, 0, 0, 0, 0),
-        Event::Sent { start, len, opcode } => {
+        None => words(6, total, 0, 0, 0, 0),
+        Some(Event::Sent { start, len, opcode }) => {
             words(7, total, start as u64, len as u64, opcode as u64, 0)
         }
-        Event::SentInvalidating {
-            start,
-            len,
-            opcode,
-            stag,
-        } => words(
+        Some(
+            Event::SentInvalidating {
+                start,
+                len,
+                opcode,
+                stag,
+            },
+        ) => words(
             8,
             total,
             start as u64,
@@ -157,7 +161,7 @@ fn event_words(total: u64, event: Event) -> [u64; 8]
             opcode as u64,
             stag as u64,
         ),
-        Event::Terminated { layer, etype, code } => {
+        Some(Event::Terminated { layer, etype, code }) => {
             words(9, total, layer as u64, etype as u64, code as u64, 0)
         }
     }
@@ -178,22 +182,22 @@ fn ended_words(refusal: Refusal) -> [u64; 8]
 }
 
 // What receive answers.
-pub fn answer_words(answer: Answer) -> [u64; 8]
+pub fn answer_words(answer: Result<Answer, LocalRefusal>) -> [u64; 8]
     ensures { result ≡ answer_words answer }
 {
     match answer {
-        Answer::Wait(n) => words(5, n as u64, 0, 0, 0, 0),
-        Answer::Taken { total, event } => event_words(total as u64, event),
-        Answer::Ended(refusal) => ended_words(refusal),
-        Answer::Refused(number) => words(0, number as u64, 0, 0, 0, 0),
+        Ok(Answer::Wait(n)) => words(5, n as u64, 0, 0, 0, 0),
+        Ok(Answer::Taken { total, event }) => event_words(total as u64, event),
+        Ok(Answer::Ended(refusal)) => ended_words(refusal),
+        Err(refusal) => refused_words(refusal),
     }
 }
 
 // A local refusal, by its number.
-pub fn refused_words(number: u8) -> [u64; 8]
-    ensures { result ≡ refused_words number }
+pub fn refused_words(refusal: LocalRefusal) -> [u64; 8]
+    ensures { result ≡ refused_words refusal }
 {
-    words(0, number as u64, 0, 0, 0, 0)
+    words(0, refusal.number() as u64, 0, 0, 0, 0)
 }
 
 // All bytes of an offer are held.
@@ -207,14 +211,12 @@ pub fn kept_words(count: u64) -> [u64; 8]
 fn taken_of(total: u64, held: u64) -> u64
     ensures { result ≡ total - held }
 {
-    if total < held {
-        return 0;
-    }
-    total - held
+    total.saturating_sub(held)
 }
 
 // Makes of what receive answered to the pending bytes, of which `held` were held before, what an offer of
 // `count` bytes answers.
+#[tactic(auto, unfolding(crate::specs::Words::offered_words))]
 pub fn offered(answer: &mut [u64; 8], held: u64, count: u64)
     ensures { answer.new ≡ offered_words answer.old held count }
 {
@@ -223,10 +225,7 @@ pub fn offered(answer: &mut [u64; 8], held: u64, count: u64)
         *answer = kept_words(count);
         return;
     }
-    if 6 <= kind {
-        if kind <= 9 {
-            answer[6] = taken_of(answer[1], held);
-            return;
-        }
+    if 6 <= kind && kind <= 9 {
+        answer[6] = taken_of(answer[1], held);
     }
 }

@@ -1,6 +1,2 @@
-pub mod Asked
 pub mod Gathered
-pub mod Listed
-pub mod Places
-pub mod Read
-pub mod Within
+pub mod Split

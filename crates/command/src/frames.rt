@@ -1,21 +1,46 @@
 // The commands on frames, which have no state: what a line asks, what is answered to it, and the
 // text of the answer.
-ghost use Rattle.std.specs.Prelude.{◌≡◌, ◌++◌, ◌≤◌, min, length, take};
+ghost use Rattle.std.specs.Prelude.{◌≡◌, ◌++◌, ◌≤◌, min, length, take, IfSome};
 ghost use Rattle.mpa.specs.Fpdu.{fpdu_written, fpdu_out};
 ghost use Rattle.mpa.specs.Startup.{startup_written, startup_out};
-ghost use Rattle.command.specs.Args.{words_at};
-ghost use Rattle.command.specs.Frames.{is_frame, fpdu_asked, unframe_asked, startup_asked, unstartup_asked, command_asked, hex_word, frame_asked, frame_bytes, frame_answer, frame_after, in_room, past_room};
+ghost use Rattle.command.specs.Args.{words_of};
+ghost use Rattle.command.specs.Frames.{
+  frame_name,
+  is_frame,
+  fpdu_asked,
+  unframe_asked,
+  startup_asked,
+  unstartup_asked,
+  command_asked,
+  hex_word,
+  frame_asked,
+  size_asked,
+  frame_bytes,
+  frame_answer,
+  frame_after,
+  in_room,
+  past_room,
+};
 
 use crate::answer::{bad, refused, startup_read, ulpdu_read, wait, wrote};
-use crate::args::{Flag, Words, flag_of, hex_into, room, word};
+use crate::args::{Words, room};
 use mpa::fpdu::{read_fpdu, write_fpdu};
 use mpa::startup::{read_startup, write_startup};
-use mpa::{FpduRead, StartupRead};
-use script::number::{Number, read_number};
-use wire::Written;
-use wire::copy::same;
+use mpa::{FpduFault, FpduRead, StartupRead};
+use script::hex::decode;
+use script::text::Text;
+use wire::refusal::LocalRefusal;
 
-// A command on frames, without the bytes that it is on; Bad where a line is none of them.
+// The commands on frames.
+#[derive(Clone, Copy)]
+pub enum FrameName {
+    Fpdu,
+    Unframe,
+    Startup,
+    Unstartup,
+}
+
+// A command on frames, without the bytes that it is on.
 #[derive(Clone, Copy)]
 pub enum FrameCommand {
     Fpdu {
@@ -33,7 +58,6 @@ pub enum FrameCommand {
     Unstartup {
         reply: bool,
     },
-    Bad,
 }
 
 // What a line asks: a command, and how many bytes it is on.
@@ -43,154 +67,136 @@ pub struct FrameAsked {
     pub size: usize,
 }
 
-// What is answered to a command: by a writer, by a reader, or to a line that is no command.
+// What is answered to a command: by a writer, or by a reader.
 #[derive(Drop)]
 pub enum FrameAnswer {
-    Wrote(Written),
-    Fpdu(FpduRead),
-    Startup(StartupRead),
-    Bad,
+    Wrote(Result<usize, LocalRefusal>),
+    Fpdu(Result<FpduRead, FpduFault>),
+    Startup(Result<StartupRead, LocalRefusal>),
+}
+
+// The command on frames that a name stands for.
+#[tactic(auto, using(script::proofs::Same::equal_same), unfolding(crate::specs::Frames::frame_name))]
+fn frame_name(name: &[u8]) -> Option<FrameName>
+    ensures { result ≡ frame_name name.now }
+{
+    if name == b"fpdu".as_slice() {
+        return Some(FrameName::Fpdu);
+    }
+    if name == b"unframe".as_slice() {
+        return Some(FrameName::Unframe);
+    }
+    if name == b"startup".as_slice() {
+        return Some(FrameName::Startup);
+    }
+    if name == b"unstartup".as_slice() {
+        return Some(FrameName::Unstartup);
+    }
+    None
 }
 
 // Whether a line of that first word is a command on frames.
 pub fn is_frame(name: &[u8]) -> bool
     ensures { result ≡ is_frame name.now }
 {
-    if same(name, b"fpdu") {
-        return true;
-    }
-    if same(name, b"unframe") {
-        return true;
-    }
-    if same(name, b"startup") {
-        return true;
-    }
-    same(name, b"unstartup")
+    frame_name(name).is_some()
 }
 
 // `fpdu HEX ROOM`: writes an FPDU.
-fn ask_fpdu(line: &[u8], words: Words) -> FrameCommand
-    ensures { result ≡ fpdu_asked (words_at line.now words) }
+#[tactic(auto, unfolding(crate::specs::Frames::fpdu_asked))]
+fn ask_fpdu(words: &Words) -> Option<FrameCommand>
+    ensures { result ≡ fpdu_asked (words_of words.now) }
 {
-    if words.count != 3 {
-        return FrameCommand::Bad;
+    if words.len() != 3 {
+        return None;
     }
-    let Number::Value(asked) = read_number(word(line, words, 2)) else {
-        return FrameCommand::Bad;
-    };
-    FrameCommand::Fpdu { room: asked }
+    let room = words.number(2)?;
+    Some(FrameCommand::Fpdu { room })
 }
 
 // `unframe on|off HEX`: reads an FPDU.
-fn ask_unframe(line: &[u8], words: Words) -> FrameCommand
-    ensures { result ≡ unframe_asked (words_at line.now words) }
+#[tactic(auto, unfolding(crate::specs::Frames::unframe_asked))]
+fn ask_unframe(words: &Words) -> Option<FrameCommand>
+    ensures { result ≡ unframe_asked (words_of words.now) }
 {
-    if words.count != 3 {
-        return FrameCommand::Bad;
+    if words.len() != 3 {
+        return None;
     }
-    let Flag::Value(crc) = flag_of(word(line, words, 1), b"off", b"on") else {
-        return FrameCommand::Bad;
-    };
-    FrameCommand::Unframe { crc }
+    let crc = words.flag(1, b"off", b"on")?;
+    Some(FrameCommand::Unframe { crc })
 }
 
 // `startup req|rep C R HEX ROOM`: writes a startup frame.
-fn ask_startup(line: &[u8], words: Words) -> FrameCommand
-    ensures { result ≡ startup_asked (words_at line.now words) }
+#[tactic(auto, unfolding(crate::specs::Frames::startup_asked))]
+fn ask_startup(words: &Words) -> Option<FrameCommand>
+    ensures { result ≡ startup_asked (words_of words.now) }
 {
-    if words.count != 6 {
-        return FrameCommand::Bad;
+    if words.len() != 6 {
+        return None;
     }
-    let Flag::Value(reply) = flag_of(word(line, words, 1), b"req", b"rep") else {
-        return FrameCommand::Bad;
-    };
-    let Flag::Value(crc) = flag_of(word(line, words, 2), b"0", b"1") else {
-        return FrameCommand::Bad;
-    };
-    let Flag::Value(declined) = flag_of(word(line, words, 3), b"0", b"1") else {
-        return FrameCommand::Bad;
-    };
-    let Number::Value(asked) = read_number(word(line, words, 5)) else {
-        return FrameCommand::Bad;
-    };
-    FrameCommand::Startup {
+    let reply = words.flag(1, b"req", b"rep")?;
+    let crc = words.flag(2, b"0", b"1")?;
+    let declined = words.flag(3, b"0", b"1")?;
+    let room = words.number(5)?;
+    Some(FrameCommand::Startup {
         reply,
         crc,
         declined,
-        room: asked,
-    }
+        room,
+    })
 }
 
 // `unstartup req|rep HEX`: reads a startup frame.
-fn ask_unstartup(line: &[u8], words: Words) -> FrameCommand
-    ensures { result ≡ unstartup_asked (words_at line.now words) }
+#[tactic(auto, unfolding(crate::specs::Frames::unstartup_asked))]
+fn ask_unstartup(words: &Words) -> Option<FrameCommand>
+    ensures { result ≡ unstartup_asked (words_of words.now) }
 {
-    if words.count != 3 {
-        return FrameCommand::Bad;
+    if words.len() != 3 {
+        return None;
     }
-    let Flag::Value(reply) = flag_of(word(line, words, 1), b"req", b"rep") else {
-        return FrameCommand::Bad;
-    };
-    FrameCommand::Unstartup { reply }
+    let reply = words.flag(1, b"req", b"rep")?;
+    Some(FrameCommand::Unstartup { reply })
 }
 
 // The command of a line by its name; its word of hex is not looked at yet.
-fn ask_command(line: &[u8], words: Words) -> FrameCommand
-    ensures { result ≡ command_asked (words_at line.now words) }
+#[tactic(auto, unfolding(crate::specs::Frames::command_asked))]
+fn ask_command(words: &Words) -> Option<FrameCommand>
+    ensures { result ≡ command_asked (words_of words.now) }
 {
-    let name = word(line, words, 0);
-    if same(name, b"fpdu") {
-        return ask_fpdu(line, words);
+    match frame_name(words.word(0))? {
+        FrameName::Fpdu => ask_fpdu(words),
+        FrameName::Unframe => ask_unframe(words),
+        FrameName::Startup => ask_startup(words),
+        FrameName::Unstartup => ask_unstartup(words),
     }
-    if same(name, b"unframe") {
-        return ask_unframe(line, words);
-    }
-    if same(name, b"startup") {
-        return ask_startup(line, words);
-    }
-    if same(name, b"unstartup") {
-        return ask_unstartup(line, words);
-    }
-    FrameCommand::Bad
 }
 
-// The word of hex of a command; of none it has no bytes, and so is no hex.
-fn hex_word(line: &[u8], words: Words, command: FrameCommand) -> &[u8]
-    ensures { result.now ≡ hex_word command (words_at line.now words) }
+// The word of hex of a command.
+fn hex_word<'a>(words: &Words<'a>, command: FrameCommand) -> &'a [u8]
+    ensures { result.now ≡ hex_word command (words_of words.now) }
 {
     match command {
-        FrameCommand::Fpdu { room: _ } => word(line, words, 1),
-        FrameCommand::Unframe { crc: _ } => word(line, words, 2),
-        FrameCommand::Startup {
-            reply: _,
-            crc: _,
-            declined: _,
-            room: _,
-        } => word(line, words, 4),
-        FrameCommand::Unstartup { reply: _ } => word(line, words, 2),
-        FrameCommand::Bad => &line[..0],
+        FrameCommand::Fpdu { .. } => words.word(1),
+        FrameCommand::Unframe { .. } => words.word(2),
+        FrameCommand::Startup { .. } => words.word(4),
+        FrameCommand::Unstartup { .. } => words.word(2),
     }
 }
 
 // What a line asks; the bytes that its word of hex stands for are put at the start of bytes.
-pub fn ask_frame(line: &[u8], words: Words, bytes: &mut [u8]) -> FrameAsked
-    ensures asked { result ≡ frame_asked (words_at line.now words) (length bytes.old) }
-    ensures bytes { take result.size bytes.new ≡ frame_bytes (words_at line.now words) (length bytes.old) }
+#[tactic(auto, unfolding(crate::specs::Frames::frame_asked, crate::specs::Frames::frame_bytes))]
+pub fn ask_frame(words: &Words, bytes: &mut [u8]) -> Option<FrameAsked>
+    ensures asked { result ≡ frame_asked (words_of words.now) (length bytes.old) }
+    ensures bytes { take (size_asked result) bytes.new ≡ frame_bytes (words_of words.now) (length bytes.old) }
+    ensures within { IfSome result (λ asked. asked.size ≤ length bytes.new) }
 {
-    let command = ask_command(line, words);
-    let hex = hex_into(hex_word(line, words, command), bytes);
-    if hex.ok {
-        let size = hex.count;
-        return FrameAsked { command, size };
-    }
-    FrameAsked {
-        command: FrameCommand::Bad,
-        size: 0,
-    }
+    let command = ask_command(words)?;
+    let size = decode(hex_word(words, command), bytes)?;
+    Some(FrameAsked { command, size })
 }
 
 // Writes the FPDU of a ULPDU into the part of frame of the room asked for.
-fn write_ulpdu(ulpdu: &[u8], asked: u64, frame: &mut [u8]) -> Written
+fn write_ulpdu(ulpdu: &[u8], asked: u64, frame: &mut [u8]) -> Result<usize, LocalRefusal>
     ensures answer { result ≡ fpdu_written (length ulpdu.now) (min asked (length frame.old)) }
     ensures bytes { frame.new ≡ fpdu_out ulpdu.now (in_room asked frame.old) ++ past_room asked frame.old }
 {
@@ -206,7 +212,7 @@ fn write_private(
     private_data: &[u8],
     asked: u64,
     frame: &mut [u8],
-) -> Written
+) -> Result<usize, LocalRefusal>
     ensures answer { result ≡ startup_written reply declined (length private_data.now) (min asked (length frame.old)) }
     ensures bytes { frame.new ≡ startup_out reply crc declined private_data.now (in_room asked frame.old) ++ past_room asked frame.old }
 {
@@ -229,7 +235,6 @@ pub fn answer_frame(command: FrameCommand, bytes: &[u8], frame: &mut [u8]) -> Fr
             room: asked,
         } => FrameAnswer::Wrote(write_private(reply, crc, declined, bytes, asked, frame)),
         FrameCommand::Unstartup { reply } => FrameAnswer::Startup(read_startup(reply, bytes)),
-        FrameCommand::Bad => FrameAnswer::Bad,
     }
 }
 
@@ -245,63 +250,70 @@ pub fn part(bytes: &[u8], start: usize, len: usize) -> &[u8] {
 }
 
 // What a writer answered, in words.
-pub fn tell_written(written: Written, frame: &[u8], text: &mut [u8]) -> usize
-    ensures { result ≤ length text.old }
-{
+pub fn tell_written<const N: usize>(
+    written: Result<usize, LocalRefusal>,
+    frame: &[u8],
+    text: &mut Text<N>,
+) {
     match written {
-        Written::Length(n) => wrote(part(frame, 0, n), text),
-        Written::Refused(number) => refused(number, text),
+        Ok(n) => wrote(part(frame, 0, n), text),
+        Err(refusal) => refused(refusal.number(), text),
     }
 }
 
 // What the reader of FPDUs found in bytes, in words.
-fn tell_fpdu(read: FpduRead, bytes: &[u8], text: &mut [u8]) -> usize
-    ensures { result ≤ length text.old }
-{
+fn tell_fpdu<const N: usize>(read: Result<FpduRead, FpduFault>, bytes: &[u8], text: &mut Text<N>) {
     match read {
-        FpduRead::Wait(total) => wait(total, text),
-        FpduRead::Refused(number) => refused(number, text),
-        FpduRead::Taken { total, start, len } => ulpdu_read(total, part(bytes, start, len), text),
+        Ok(FpduRead::Wait(total)) => wait(total, text),
+        Ok(FpduRead::Taken { total, start, len }) => {
+            ulpdu_read(total, part(bytes, start, len), text)
+        }
+        Err(fault) => refused(fault.number(), text),
     }
 }
 
 // What the reader of startup frames found in bytes, in words.
-fn tell_startup(read: StartupRead, bytes: &[u8], text: &mut [u8]) -> usize
-    ensures { result ≤ length text.old }
-{
+fn tell_startup<const N: usize>(
+    read: Result<StartupRead, LocalRefusal>,
+    bytes: &[u8],
+    text: &mut Text<N>,
+) {
     match read {
-        StartupRead::Wait(total) => wait(total, text),
-        StartupRead::Refused(number) => refused(number, text),
-        StartupRead::Taken {
-            total,
-            crc,
-            declined,
-            start,
-            len,
-        } => startup_read(total, crc, declined, part(bytes, start, len), text),
+        Ok(StartupRead::Wait(total)) => wait(total, text),
+        Ok(
+            StartupRead::Taken {
+                total,
+                crc,
+                declined,
+                start,
+                len,
+            },
+        ) => startup_read(total, crc, declined, part(bytes, start, len), text),
+        Err(refusal) => refused(refusal.number(), text),
     }
 }
 
-// Puts an answer into text, and answers its length. A reader read from bytes, and a writer wrote
-// into frame.
-pub fn tell_frame(answer: FrameAnswer, bytes: &[u8], frame: &[u8], text: &mut [u8]) -> usize
-    ensures { result ≤ length text.old }
-{
+// Puts an answer into text. A reader read from bytes, and a writer wrote into frame.
+pub fn tell_frame<const N: usize>(
+    answer: FrameAnswer,
+    bytes: &[u8],
+    frame: &[u8],
+    text: &mut Text<N>,
+) {
     match answer {
         FrameAnswer::Wrote(written) => tell_written(written, frame, text),
         FrameAnswer::Fpdu(read) => tell_fpdu(read, bytes, text),
         FrameAnswer::Startup(read) => tell_startup(read, bytes, text),
-        FrameAnswer::Bad => bad(text),
     }
 }
 
 // Answers a line: asks, answers and tells.
-pub fn run(line: &[u8], words: Words, bytes: &mut [u8], frame: &mut [u8], text: &mut [u8]) -> usize
-    ensures { result ≤ length text.old }
-{
-    let asked = ask_frame(line, words, bytes);
-    let command = asked.command;
-    let size = asked.size;
-    let answer = answer_frame(command, &bytes[..size], frame);
-    tell_frame(answer, &bytes[..size], frame, text)
+pub fn run<const N: usize>(words: &Words, bytes: &mut [u8], frame: &mut [u8], text: &mut Text<N>) {
+    let Some(asked) = ask_frame(words, bytes) else {
+        bad(text);
+        return;
+    };
+    let given = &bytes[..asked.size];
+    let answer = answer_frame(asked.command, given, frame);
+    tell_frame(answer, given, frame, text)
 }

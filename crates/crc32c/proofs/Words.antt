@@ -6,7 +6,7 @@ use Prim.Native.Nat.{ℕ, suc, ◌+◌, ◌*◌, ◌/◌, ◌%◌, ◌^◌, ◌�
 use native.Mathlib.Omega.{arith}
 use lib.Bits.{bit_xor, xor_comm, xor_lt, xor_shifted}
 use lib.ListN.{length, get_or, take, drop, take-append-drop}
-use lib.Seq.{drop-cons, drop-drop}
+use lib.Seq.{drop-cons, drop-drop, take_all}
 use Rattle.crc_bits.specs.Crc.{crc_bits_of, crc_byte, crc_run}
 use Rattle.crc_halves.specs.Tables.{after}
 use Rattle.crc32c.specs.Tables.{eight, word, Bytes}
@@ -109,6 +109,12 @@ pub eight_is : (c : ℕ) (s : List ℕ) (i : ℕ) → c < 2 ^ 32 → i + 8 ≤ l
     → eight c s i ≡ bit_xor (after 64 (bit_xor c (word s i))) (after 32 (word s (i + 4)))
 unfolding eight
 eight_is c s i hc h p q = ap (crc_run c) (eight-bytes s i h) ∙ eight-run c _ _ _ _ _ _ _ _ hc p.0 p.1 p.2 p.3 q.0 q.1 q.2 q.3
+
+-- the same of a list of eight bytes
+pub run_eight : (c : ℕ) (s : List ℕ) → c < 2 ^ 32 → length s ≡ 8 → Bytes s 0 → Bytes s 4
+    → crc_run c s ≡ bit_xor (after 64 (bit_xor c (word s 0))) (after 32 (word s 4))
+unfolding eight
+run_eight c s hc h p q = ap (crc_run c) (sym (take_all 8 s (omega arith))) ∙ eight_is c s 0 hc (omega arith) p q
 
 -- a number's lowest w bits are taken off: all else is w bits ahead
 pub low : (w n x : ℕ) → x < 2 ^ 32 → x / 2 ^ w * 2 ^ w + x % 2 ^ w ≡ x → x % 2 ^ w < 2 ^ w → after (w + n) x ≡ bit_xor (after n (x / 2 ^ w)) (after (w + n) (x % 2 ^ w))

@@ -16,8 +16,8 @@ pub use crc_bits::shift;
 // The running value before the first byte.
 pub const ALL_ONES: u32 = 0xFFFF_FFFF;
 
-// From this length on the tables are worth setting up.
-const LONG: usize = 384;
+// From this length on three numbers of eight bytes at a time are worth it.
+const LONG: usize = 48;
 
 // The running value carried on over the bytes of a slice.
 pub fn update(running: u32, bytes: &[u8]) -> u32

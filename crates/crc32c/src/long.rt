@@ -1,14 +1,12 @@
 // The running value carried on over a long slice: three numbers of eight bytes at a time, each with a running value of its own,
 // so that the look-ups of one need not wait for those of another. Read `carry` first.
-ghost use Rattle.std.specs.Prelude.{◌≡◌, ◌+◌, ◌≤◌, length};
+ghost use Rattle.std.specs.Prelude.{◌≡◌, ◌≤◌, length};
 ghost use Rattle.crc_bits.specs.Crc.{crc_run};
 ghost use Rattle.crc_halves.specs.Tables.{after};
-ghost use Rattle.crc32c.specs.Tables.{eight, Tables};
-
-use crate::short::four;
+ghost use Rattle.crc32c.specs.Tables.{Tables};
 
 // What 136, 144, .. and 192 bits make of each byte, a table of 256 entries for each number of bits.
-const TABLES: [u32; 2048] = [
+static TABLES: [u32; 2048] = [
     0x00000000, 0x5FE4DC5F, 0xBFC9B8BE, 0xE02D64E1, 0x7A7F078D, 0x259BDBD2, 0xC5B6BF33, 0x9A52636C,
     0xF4FE0F1A, 0xAB1AD345, 0x4B37B7A4, 0x14D36BFB, 0x8E810897, 0xD165D4C8, 0x3148B029, 0x6EAC6C76,
     0xEC1068C5, 0xB3F4B49A, 0x53D9D07B, 0x0C3D0C24, 0x966F6F48, 0xC98BB317, 0x29A6D7F6, 0x76420BA9,
@@ -267,13 +265,13 @@ const TABLES: [u32; 2048] = [
     0x6CAFC72B, 0xD6E005A5, 0x1DDC34C6, 0xA793F648, 0x8E4820F1, 0x3407E27F, 0xFF3BD31C, 0x45741192,
 ];
 
-// The running value carried on over the eight bytes from at, and then over sixteen zero bytes.
-fn lane(tables: &[u32; 2048], c: u32, s: &[u8], at: usize) -> u32
-    requires { Tables tables.now × (at + 8 ≤ length s.now) }
-    ensures { result ≡ after 128 (eight c s.now at) }
+// The running value carried on over eight bytes, and then over sixteen zero bytes.
+fn lane(tables: &[u32; 2048], c: u32, s: &[u8; 8]) -> u32
+    requires { Tables tables.now }
+    ensures { result ≡ after 128 (crc_run c s.now) }
 {
-    let y = four(s, at + 4);
-    let x = c ^ four(s, at);
+    let x = c ^ u32::from_le_bytes([s[0], s[1], s[2], s[3]]);
+    let y = u32::from_le_bytes([s[4], s[5], s[6], s[7]]);
     let high = tables[(y / 16777216 % 256) as usize]
         ^ tables[256 + (y / 65536 % 256) as usize]
         ^ tables[512 + (y / 256 % 256) as usize]
@@ -291,27 +289,25 @@ fn over_lanes(tables: &[u32; 2048], start: u32, s: &[u8]) -> u32
     requires { Tables tables.now × (24 ≤ length s.now) }
     ensures { result ≡ crc_run start s.now }
 {
-    let mut a = start;
-    let mut b = 0;
-    let mut c = 0;
-    let mut i = 0;
-    while 48 <= s.len() - i {
-        a = lane(tables, a, s, i);
-        b = lane(tables, b, s, i + 8);
-        c = lane(tables, c, s, i + 16);
-        i += 24;
+    let (eights, _) = s.as_chunks::<8>();
+    let (threes, _) = eights.as_chunks::<3>();
+    let ahead = threes.len() - 1;
+    let (mut a, mut b, mut c) = (start, 0, 0);
+    for [x, y, z] in &threes[..ahead] {
+        a = lane(tables, a, x);
+        b = lane(tables, b, y);
+        c = lane(tables, c, z);
     }
-    let x = crate::short::carry(a, &s[i..i + 8]);
-    let y = crate::short::carry(x ^ b, &s[i + 8..i + 16]);
-    crate::short::carry(y ^ c, &s[i + 16..])
+    let rest = &s[ahead * 24..];
+    let x = crate::short::carry(a, &rest[..8]);
+    let y = crate::short::carry(x ^ b, &rest[8..16]);
+    crate::short::carry(y ^ c, &rest[16..])
 }
 
-// The running value carried on over a slice of at least 24 bytes. The tables are bound once a call: indexed in place, they would
-// be built anew at each look-up.
+// The running value carried on over a slice of at least 24 bytes.
 pub(crate) fn carry(start: u32, s: &[u8]) -> u32
     requires { 24 ≤ length s.now }
     ensures { result ≡ crc_run start s.now }
 {
-    let tables = TABLES;
-    over_lanes(&tables, start, s)
+    over_lanes(&TABLES, start, s)
 }

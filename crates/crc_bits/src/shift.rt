@@ -8,6 +8,7 @@ ghost use Rattle.crc_bits.specs.Crc.{crc_bit, crc_bits_of};
 ghost use Rattle.crc_bits.specs.Shift.{one, times, joined};
 
 // The running value carried on over one zero bit.
+#[tactic(auto, using(crate::proofs::Linear::bit_is))]
 fn bit(c: u32) -> u32
     ensures { result ≡ crc_bit c }
 {
@@ -15,14 +16,13 @@ fn bit(c: u32) -> u32
 }
 
 // The running value carried on over one zero byte.
+#[tactic(auto, using(crate::proofs::Shifts::bits_last))]
 fn zero_byte(c: u32) -> u32
     ensures { result ≡ crc_bits_of 8 c }
 {
     let mut r = c;
-    let mut k: u32 = 8;
-    while 0 < k {
+    for _ in 0..8u32 {
         r = bit(r);
-        k -= 1;
     }
     r
 }
@@ -40,17 +40,16 @@ pub fn times(p: u32, q: u32) -> u32
 {
     let mut sum = 0;
     let mut left = p;
-    let mut k: u32 = 32;
-    while 0 < k {
+    for _ in 0..32u32 {
         sum = summed(sum, left, q);
-        left = left / 2;
-        k -= 1;
+        left /= 2;
     }
     sum
 }
 
 // What n zero bytes multiply a running value by: the square of what half as many do, and for an odd
 // n one byte more.
+#[tactic(auto, using(crate::proofs::Shifts::square_even, crate::proofs::Shifts::square_odd))]
 fn power(n: u32) -> u32
     ensures { result ≡ crc_bits_of (8 * n) one }
 {
@@ -68,6 +67,7 @@ fn power(n: u32) -> u32
 }
 
 // The CRC of two pieces together, from the CRC of each and the second's length.
+#[tactic(auto, using(crate::proofs::Shifts::joined_is))]
 pub fn join(first: u32, second: u32, len: u32) -> u32
     ensures { result ≡ joined first second len }
 {

@@ -1,1 +1,1 @@
-pub mod Arms
+mod Entries

@@ -5,34 +5,22 @@
 #![tactic(auto)]
 
 use crc32c::shift::join;
-use crc32c::{crc32c, update};
+use crc32c::{ALL_ONES, crc32c, update};
 use std::io;
 
 // Whether the bytes cut at a place have that CRC, in both ways.
 fn cut_agrees(bytes: &[u8], cut: usize, crc: u32) -> bool {
-    if bytes.len() < cut {
+    let Some((first, second)) = bytes.split_at_checked(cut) else {
         return false;
-    }
-    let first = &bytes[..cut];
-    let second = &bytes[cut..];
-    let running = update(0xFFFF_FFFF, first);
-    if 0xFFFF_FFFF - update(running, second) != crc {
-        return false;
-    }
+    };
+    let running = update(ALL_ONES, first);
     let size = (second.len() % 0x1_0000_0000) as u32;
-    join(crc32c(first), crc32c(second), size) == crc
+    ALL_ONES - update(running, second) == crc && join(crc32c(first), crc32c(second), size) == crc
 }
 
 // Whether they do at every place.
 fn cuts_agree(bytes: &[u8], crc: u32) -> bool {
-    let mut cut = 0;
-    while cut < bytes.len() {
-        if !cut_agrees(bytes, cut, crc) {
-            return false;
-        }
-        cut += 1;
-    }
-    cut_agrees(bytes, cut, crc)
+    (0..=bytes.len()).all(|cut| cut_agrees(bytes, cut, crc))
 }
 
 // Writes the CRC of some bytes, or that the ways differ.

@@ -28,6 +28,7 @@ use Rattle.cuts.specs.Cuts.{offer, Outcome, drain_in, drain, drain_all, joined, 
 use Rattle.cuts.specs.Received.{Side, Report, received}
 use Rattle.cuts.specs.Received.Report.{event, refusal}
 use Rattle.cuts.proofs.Domain.{new_holds, domain_cuts_same}
+use Rattle.std.specs.Prelude.{Some}
 
 -- a part of 64 bytes; stream 1 open with the CRC off, which expects MSN 5 and has a buffer of 16 bytes at 8
 abbrev start : Side
@@ -66,11 +67,11 @@ cut bytes = take 1 bytes ∷ take 28 (drop 1 bytes) ∷ drop 29 bytes ∷ []
 abbrev pub Came : Outcome Side Report → List Report → List ℕ → Type 0
 Came r events held = (r.events ≡ events) × (r.state.bytes ≡ put start.bytes 8 (10 ∷ 20 ∷ 30 ∷ [])) × (r.held ≡ held)
 
-pub begun_case : Came (drain_all (received 0 1) start [] (cut begun)) (event (Sent 8 3 3) ∷ []) (0 ∷ 21 ∷ 65 ∷ [])
+pub begun_case : Came (drain_all (received 0 1) start [] (cut begun)) (event (Some (Sent 8 3 3)) ∷ []) (0 ∷ 21 ∷ 65 ∷ [])
 unfolding offer drain_in drain drain_all received domain_received domain_received_bytes parts_received parts_received_bytes parts_applied placed_from applied_bytes segment_read fpdu_read fpdu_read_of header_read tagged_read untagged_read tagged_fields untagged_fields untagged_of untagged_in queue_of message_verdict send_verdict placed fits popped_of
 begun_case = (refl, refl, refl)
 
-pub spoilt_case : Came (drain_all (received 0 1) start [] (cut spoilt)) (event (Sent 8 3 3) ∷ refusal ulpdu_too_long ∷ []) []
+pub spoilt_case : Came (drain_all (received 0 1) start [] (cut spoilt)) (event (Some (Sent 8 3 3)) ∷ refusal ulpdu_too_long ∷ []) []
 unfolding offer drain_in drain drain_all received domain_received domain_received_bytes parts_received parts_received_bytes parts_applied placed_from applied_bytes segment_read fpdu_read fpdu_read_of header_read tagged_read untagged_read tagged_fields untagged_fields untagged_of untagged_in queue_of message_verdict send_verdict placed fits popped_of
 spoilt_case = (refl, refl, refl)
 
@@ -79,10 +80,10 @@ same_bytes : (bytes : List ℕ) → joined (cut bytes) ≡ joined (singles bytes
 same_bytes bytes e events held c =
     subst (λ (r : Outcome Side Report). Came r events held) (domain_cuts_same 0 1 start [] (new_holds 0 1 start) (cut bytes) (singles bytes) e) c
 
-pub begun-bytes : Came (drain_all (received 0 1) start [] (singles begun)) (event (Sent 8 3 3) ∷ []) (0 ∷ 21 ∷ 65 ∷ [])
+pub begun-bytes : Came (drain_all (received 0 1) start [] (singles begun)) (event (Some (Sent 8 3 3)) ∷ []) (0 ∷ 21 ∷ 65 ∷ [])
 unfolding joined singles
-begun-bytes = same_bytes begun refl (event (Sent 8 3 3) ∷ []) (0 ∷ 21 ∷ 65 ∷ []) begun_case
+begun-bytes = same_bytes begun refl (event (Some (Sent 8 3 3)) ∷ []) (0 ∷ 21 ∷ 65 ∷ []) begun_case
 
-pub spoilt-bytes : Came (drain_all (received 0 1) start [] (singles spoilt)) (event (Sent 8 3 3) ∷ refusal ulpdu_too_long ∷ []) []
+pub spoilt-bytes : Came (drain_all (received 0 1) start [] (singles spoilt)) (event (Some (Sent 8 3 3)) ∷ refusal ulpdu_too_long ∷ []) []
 unfolding joined singles
-spoilt-bytes = same_bytes spoilt refl (event (Sent 8 3 3) ∷ refusal ulpdu_too_long ∷ []) [] spoilt_case
+spoilt-bytes = same_bytes spoilt refl (event (Some (Sent 8 3 3)) ∷ refusal ulpdu_too_long ∷ []) [] spoilt_case

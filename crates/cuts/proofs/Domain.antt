@@ -20,6 +20,8 @@ use Rattle.cuts.specs.Received.{Side, Report, side_after, step_of, received, May
 use Rattle.cuts.specs.Received.Report.{event}
 use Rattle.cuts.proofs.Cuts.{Shut, drain-holding, fresh, cut_law, pieces_law, cuts_same, byte-by-byte, calls_law, calls_same, offer_quick, shut-offer, ended-shut, end-last}
 use Rattle.cuts.proofs.Received.{machine, held_short, Left, left}
+use Rattle.std.specs.Prelude.{Ok, Option, Result, Some}
+use Rattle.wire.specs.declared.refusal.LocalRefusal.{LocalRefusal}
 
 module _ (number slot : ℕ) where
   -- a stream that holds nothing
@@ -90,22 +92,22 @@ module _ (number slot : ℕ) where
 
     -- of a Terminate
     pub terminate-over :
-        (n layer etype code : ℕ) → (offer (received number slot) w held p).answer ≡ done n (event (Terminated layer etype code)) → Over number slot (offer (received number slot) w held p)
+        (n layer etype code : ℕ) → (offer (received number slot) w held p).answer ≡ done n (event (Some (Terminated layer etype code))) → Over number slot (offer (received number slot) w held p)
     unfolding offer
     terminate-over n layer etype code = go (received number slot w (held ++ p)) (left number slot w (held ++ p))
       where
-        go : (x : Step Side Report) → Left number slot x → (offer_of w held p x).answer ≡ done n (event (Terminated layer etype code)) → Over number slot (offer_of w held p x)
+        go : (x : Step Side Report) → Left number slot x → (offer_of w held p x).answer ≡ done n (event (Some (Terminated layer etype code))) → Over number slot (offer_of w held p x)
         go waits l q = absurd (let no : ◌≡◌ {A = ℕ} 0 1 = cc in omega arith)
         go (took m e t) l q =
-            let same : e ≡ event (Terminated layer etype code) = cc in
+            let same : e ≡ event (Some (Terminated layer etype code)) = cc in
             over_of (offer_of w held p (took m e t)) refl (subst (λ (z : Report). Left number slot (took m z t)) same l)
         go (ends e t) l q = absurd (let no : ◌≡◌ {A = ℕ} 0 1 = cc in omega arith)
         go (refuses k) l q = absurd (let no : ◌≡◌ {A = ℕ} 0 1 = cc in omega arith)
 
   -- ---- the quick case: nothing held, and a whole FPDU in the input
   pub domain-offer_quick :
-      (w : Side) (p : List ℕ) (total : ℕ) (e : Event) → (domain_received w.domain number slot p).answer ≡ Taken total e →
+      (w : Side) (p : List ℕ) (total : ℕ) (e : Option Event) → (domain_received w.domain number slot p).0 ≡ Ok (Taken total e) →
       offer (received number slot) w [] p ≡ record { answer = done total (event e); state = side_after number slot w p; held = [] }
   unfolding received
   domain-offer_quick w p total e q =
-      offer_quick (machine number slot) w p total (event e) (side_after number slot w p) (ap (λ (a : Answer). step_of a (side_after number slot w p)) q)
+      offer_quick (machine number slot) w p total (event e) (side_after number slot w p) (ap (λ (a : Result Answer LocalRefusal). step_of a (side_after number slot w p)) q)

@@ -13,11 +13,14 @@ use Rattle.wire.proofs.Laws.{be16_at-take, le32_at-take}
 use Rattle.crc32c.specs.Crc.{crc_of}
 use Rattle.mpa.specs.Fpdu.{max_ulpdu, covered_of, total_of, crc_right, fpdu_read_of, fpdu_read}
 use Rattle.mpa.specs.declared.FpduRead.{FpduRead}
-use Rattle.mpa.specs.declared.FpduRead.TheVariants.{Wait as FpduWait, Refused as FpduRefused, Taken}
+use Rattle.mpa.specs.declared.FpduRead.TheVariants.{Wait as FpduWait, Taken}
 use Rattle.ddp.specs.Refusal.{ulpdu_too_long}
 use Rattle.ddp.specs.Header.{header_read}
 use Rattle.ddp.specs.Segment.{segment_of, segment_from, segment_read}
-use Rattle.ddp.specs.declared.segment.SegmentRead.TheVariants.{Wait, Refused as SegmentRefused}
+use Rattle.ddp.specs.declared.segment.SegmentRead.TheVariants.{Wait}
+use Rattle.std.specs.Prelude.{Err, Ok, Result}
+use Rattle.mpa.specs.declared.FpduFault.{FpduFault}
+use Rattle.mpa.specs.declared.FpduFault.TheVariants.{CrcError}
 
 -- the FPDU's total, as its first two bytes say
 abbrev pub size_of : List ℕ → ℕ
@@ -55,25 +58,25 @@ kind_of p = go (ltb (length p) 2) (ltb max_ulpdu (be16_at p 0)) (ltb (length p) 
     go false false false u v w = whole (record { low = ltb-false _ _ v; all = ltb-false _ _ w })
 
 module _ (crc : Bool) (p : List ℕ) where
-  pub few_read : length p < 2 → segment_read crc p ≡ Wait 2
+  pub few_read : length p < 2 → segment_read crc p ≡ Ok (Wait 2)
   unfolding segment_read fpdu_read
-  few_read h = ap (λ (b : Bool). segment_from p (pick b (FpduWait 2) (fpdu_read_of crc p (be16_at p 0)))) (lt-ltb (length p) 2 h)
+  few_read h = ap (λ (b : Bool). segment_from p (pick b (Ok (FpduWait 2)) (fpdu_read_of crc p (be16_at p 0)))) (lt-ltb (length p) 2 h)
 
   there : 2 ≤ length p → fpdu_read crc p ≡ fpdu_read_of crc p (be16_at p 0)
   unfolding fpdu_read
-  there h = ap (λ (b : Bool). pick b (FpduWait 2) (fpdu_read_of crc p (be16_at p 0))) (le-ltb (length p) 2 h)
+  there h = ap (λ (b : Bool). pick b (Ok (FpduWait 2)) (fpdu_read_of crc p (be16_at p 0))) (le-ltb (length p) 2 h)
 
-  pub long_read : Long p → segment_read crc p ≡ SegmentRefused ulpdu_too_long
+  pub long_read : Long p → segment_read crc p ≡ Err ulpdu_too_long
   unfolding segment_read fpdu_read_of
   long_read k = ap (segment_from p) (there k.begun) ∙ simp (lt-ltb max_ulpdu (be16_at p 0) k.high)
 
-  pub begun_read : Begun p → segment_read crc p ≡ Wait (size_of p)
+  pub begun_read : Begun p → segment_read crc p ≡ Ok (Wait (size_of p))
   unfolding segment_read fpdu_read_of
   begun_read k = ap (segment_from p) (there k.begun) ∙ simp (le-ltb max_ulpdu (be16_at p 0) k.low, lt-ltb (length p) (size_of p) k.less)
 
   -- of a whole FPDU of n bytes of ULPDU: its CRC is asked, and then its header
-  abbrev pub checked_read : ℕ → FpduRead
-  checked_read n = pick (both crc (not (crc_right p n))) (FpduRefused 21) (Taken (total_of n) 2 n)
+  abbrev pub checked_read : ℕ → Result FpduRead FpduFault
+  checked_read n = pick (both crc (not (crc_right p n))) (Err CrcError) (Ok (Taken (total_of n) 2 n))
 
   pub whole_read : Whole p → fpdu_read crc p ≡ checked_read (be16_at p 0)
   unfolding fpdu_read_of
@@ -113,10 +116,10 @@ module _ (p : List ℕ) (k : Whole p) where
   unfolding segment_read
   own_read crc =
       let n : ℕ = be16_at p 0 in
-      ap (segment_from own) (whole_read crc own own-whole ∙ ap (checked_read crc own) own-size ∙ ap (λ (b : Bool). pick (both crc (not b)) (FpduRefused 21) (Taken (total_of n) 2 n)) crc_same)
+      ap (segment_from own) (whole_read crc own own-whole ∙ ap (checked_read crc own) own-size ∙ ap (λ (b : Bool). pick (both crc (not b)) (Err CrcError) (Ok (Taken (total_of n) 2 n))) crc_same)
       ∙ go (both crc (not (crc_right p n)))
       ∙ ap (segment_from p) (sym (whole_read crc p k))
     where
-      go : (b : Bool) → segment_from own (pick b (FpduRefused 21) (Taken (size_of p) 2 (be16_at p 0))) ≡ segment_from p (pick b (FpduRefused 21) (Taken (size_of p) 2 (be16_at p 0)))
+      go : (b : Bool) → segment_from own (pick b (Err CrcError) (Ok (Taken (size_of p) 2 (be16_at p 0)))) ≡ segment_from p (pick b (Err CrcError) (Ok (Taken (size_of p) 2 (be16_at p 0))))
       go true = refl
       go false = ap (λ (l : List ℕ). segment_of (size_of p) 2 (be16_at p 0) (header_read l)) (part-take (size_of p) p 2 (be16_at p 0) (omega arith) k.all)

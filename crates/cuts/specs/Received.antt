@@ -8,10 +8,13 @@ use Rattle.domain.specs.Domain.{domain_received, domain_received_bytes}
 use Rattle.domain.specs.declared.Domain.{Domain}
 use Rattle.arrival.specs.declared.Event.{Event}
 use Rattle.arrival.specs.declared.Answer.{Answer}
-use Rattle.arrival.specs.declared.Answer.TheVariants.{Wait, Taken, Ended, Refused}
+use Rattle.arrival.specs.declared.Answer.TheVariants.{Wait, Taken, Ended}
 use Rattle.cuts.specs.Cuts.{Step, Holds, Offered, offer}
 use Rattle.cuts.specs.Cuts.Step.{waits, took, ends, refuses}
 use Rattle.cuts.specs.Cuts.Answer.{refused}
+use Rattle.std.specs.Prelude.{Err, Ok, Option, Result}
+use Rattle.wire.specs.declared.refusal.LocalRefusal.{LocalRefusal}
+use Rattle.wire.specs.Refusal.{refusal_number}
 
 -- a domain with its bytes of the store
 pub record Side : Type 0 where
@@ -20,26 +23,26 @@ pub record Side : Type 0 where
 
 -- what an FPDU that was taken told, or why the stream ended
 pub data Report : Type 0 where
-  event : Event → Report
+  event : Option Event → Report
   refusal : Refusal → Report
 
 -- the domain and its bytes after a call of receive
 abbrev pub side_after : ℕ → ℕ → Side → List ℕ → Side
 side_after number slot w input = record {
-  domain = (domain_received w.domain number slot input).domain;
+  domain = (domain_received w.domain number slot input).1;
   bytes = domain_received_bytes w.domain number slot input w.bytes;
 }
 
 -- a Wait and a local refusal change nothing
-abbrev pub step_of : Answer → Side → Step Side Report
-step_of (Wait n) w = waits
-step_of (Taken total e) w = took total (event e) w
-step_of (Ended r) w = ends (refusal r) w
-step_of (Refused k) w = refuses k
+abbrev pub step_of : Result Answer LocalRefusal → Side → Step Side Report
+step_of (Ok (Wait n)) w = waits
+step_of (Ok (Taken total e)) w = took total (event e) w
+step_of (Ok (Ended r)) w = ends (refusal r) w
+step_of (Err k) w = refuses (refusal_number k)
 
 -- receive on the stream of a slot of domain number
 unfoldable pub received : ℕ → ℕ → Side → List ℕ → Step Side Report
-received number slot w input = step_of (domain_received w.domain number slot input).answer (side_after number slot w input)
+received number slot w input = step_of (domain_received w.domain number slot input).0 (side_after number slot w input)
 
 -- ---- what is promised
 

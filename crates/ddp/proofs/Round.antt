@@ -6,7 +6,8 @@ use Rattle.wire.proofs.Laws.{put-put, be32_at-be32, be64_at-be64}
 use Rattle.ddp.specs.Header.{tagged_bit, last_bit, version_one, control_of, start_bytes, tagged_bytes, untagged_bytes, tagged_fields, untagged_fields, tagged_read, untagged_read, header_read}
 use Rattle.ddp.specs.declared.header.TaggedHeader.{TaggedHeader}
 use Rattle.ddp.specs.declared.header.UntaggedHeader.{UntaggedHeader}
-use Rattle.ddp.specs.declared.header.HeaderRead.TheVariants.{Tagged, Untagged}
+use Rattle.std.specs.Prelude.{Ok}
+use Rattle.ddp.specs.declared.header.Header.TheVariants.{Tagged, Untagged}
 
 -- how long the headers are
 pub tagged_length : (h : TaggedHeader) → length (tagged_bytes h) ≡ 14
@@ -74,11 +75,11 @@ module _ (h : TaggedHeader) (payload : List ℕ) where
     to = be64_at-be64 h.to payload t i;
   }
 
-  pub tagged_round : h.stag < 4294967296 → h.to < 18446744073709551616 → header_read (tagged_bytes h ++ payload) ≡ Tagged h
+  pub tagged_round : h.stag < 4294967296 → h.to < 18446744073709551616 → header_read (tagged_bytes h ++ payload) ≡ Ok (Tagged h)
   unfolding header_read tagged_read
   tagged_round s t =
       simp (le-ltb _ _ tagged_long, tagged_first, t_bit true h.last, version true h.last)
-      (ap Tagged (tagged_fields_lem s t))
+      (ap (λ (x : TaggedHeader). Ok (Tagged x)) (tagged_fields_lem s t))
 
 module _ (h : UntaggedHeader) (payload : List ℕ) where
   untagged_long : 18 ≤ length (untagged_bytes h ++ payload)
@@ -103,9 +104,9 @@ module _ (h : UntaggedHeader) (payload : List ℕ) where
 
   pub untagged_round :
       h.stag < 4294967296 → h.qn < 4294967296 → h.msn < 4294967296 → h.mo < 4294967296 →
-      header_read (untagged_bytes h ++ payload) ≡ Untagged h
+      header_read (untagged_bytes h ++ payload) ≡ Ok (Untagged h)
   unfolding header_read untagged_read
   untagged_round s q m o =
       let long : 14 ≤ length (untagged_bytes h ++ payload) = omega (arith, untagged_long) in
       simp (le-ltb _ _ long, le-ltb _ _ untagged_long, untagged_first, t_bit false h.last, version false h.last)
-      (ap Untagged (untagged_fields_lem s q m o))
+      (ap (λ (x : UntaggedHeader). Ok (Untagged x)) (untagged_fields_lem s q m o))

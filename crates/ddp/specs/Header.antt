@@ -1,13 +1,14 @@
 -- Segment headers (RFC 5041, section 4), read and written.
-use Rattle.std.specs.Prelude.{ℕ, ◌+◌, ◌/◌, ◌%◌, Bool, true, false, List, ◌∷◌, ◌++◌, length, ◌==◌, nat_le, nat_lt, slice_index}
+use Rattle.std.specs.Prelude.{ℕ, ◌+◌, ◌/◌, ◌%◌, Bool, true, false, List, ◌∷◌, ◌++◌, length, ◌==◌, nat_le, nat_lt, slice_index, Err, Ok, Result}
 use Rattle.wire.specs.Wire.{pick, put, be32, be32_at, be64, be64_at}
 use Rattle.ddp.specs.Refusal.{segment_too_short, tagged_version, untagged_version}
 use Rattle.ddp.specs.declared.header.TaggedHeader.{TaggedHeader}
 use Rattle.ddp.specs.declared.header.UntaggedHeader.{UntaggedHeader}
-use Rattle.ddp.specs.declared.header.HeaderRead.{HeaderRead}
-use Rattle.ddp.specs.declared.header.HeaderRead.TheVariants.{Tagged, Untagged, Refused}
-use Rattle.wire.specs.declared.Written.{Written}
-use Rattle.wire.specs.declared.Written.TheVariants.{Length, Refused as NotWritten}
+use Rattle.ddp.specs.declared.header.Header.{Header}
+use Rattle.ddp.specs.declared.header.Header.TheVariants.{Tagged, Untagged}
+use Rattle.ddp.specs.declared.refusal.Refusal.{Refusal}
+use Rattle.wire.specs.declared.refusal.LocalRefusal.{LocalRefusal}
+use Rattle.wire.specs.declared.refusal.LocalRefusal.TheVariants.{NoRoom}
 
 -- "byte 0 has T 0x80, L 0x40, version in the low two bits, which is 1"; reserved bits are not looked at
 abbrev pub tagged_bit : ℕ → Bool
@@ -35,17 +36,17 @@ untagged_fields u = record {
 }
 
 -- 22 "ULPDU under 14, or untagged under 18"; 23 DDP version
-unfoldable pub tagged_read : List ℕ → HeaderRead
-tagged_read u = pick (version_one (slice_index u 0)) (Tagged (tagged_fields u)) (Refused tagged_version)
+unfoldable pub tagged_read : List ℕ → Result Header Refusal
+tagged_read u = pick (version_one (slice_index u 0)) (Ok (Tagged (tagged_fields u))) (Err tagged_version)
 
-unfoldable pub untagged_read : List ℕ → HeaderRead
+unfoldable pub untagged_read : List ℕ → Result Header Refusal
 untagged_read u =
-    pick (nat_lt (length u) 18) (Refused segment_too_short)
-    (pick (version_one (slice_index u 0)) (Untagged (untagged_fields u)) (Refused untagged_version))
+    pick (nat_lt (length u) 18) (Err segment_too_short)
+    (pick (version_one (slice_index u 0)) (Ok (Untagged (untagged_fields u))) (Err untagged_version))
 
-unfoldable pub header_read : List ℕ → HeaderRead
+unfoldable pub header_read : List ℕ → Result Header Refusal
 header_read u =
-    pick (nat_lt (length u) 14) (Refused segment_too_short)
+    pick (nat_lt (length u) 14) (Err segment_too_short)
     (pick (tagged_bit (slice_index u 0)) (tagged_read u) (untagged_read u))
 
 -- the first byte: T, L and version 1; "Reserved bits are written 0"
@@ -64,8 +65,8 @@ untagged_bytes h =
     start_bytes false h.last h.control h.stag ++ (be32 h.qn ++ (be32 h.msn ++ be32 h.mo))
 
 -- writing n bytes into room bytes: 13 output slice too small, or their length
-unfoldable pub header_written : ℕ → ℕ → Written
-header_written n room = pick (nat_lt room n) (NotWritten 13) (Length n)
+unfoldable pub header_written : ℕ → ℕ → Result ℕ LocalRefusal
+header_written n room = pick (nat_lt room n) (Err NoRoom) (Ok n)
 
 -- and the slice afterwards: "it keeps its bytes"; a writer "leaves the rest of its slice alone"
 unfoldable pub written_out : List ℕ → List ℕ → List ℕ

@@ -15,8 +15,9 @@ ghost use Rattle.ddp.specs.Header.{
   written_out,
 };
 
-use crate::refusal::{NO_ROOM, Refusal, SEGMENT_TOO_SHORT, TAGGED_VERSION, UNTAGGED_VERSION};
-use wire::Written;
+use crate::refusal::{Refusal, SEGMENT_TOO_SHORT, TAGGED_VERSION, UNTAGGED_VERSION};
+use wire::number::{get_be32, get_be64, put_be32, put_be64};
+use wire::refusal::LocalRefusal;
 
 // The header of a tagged segment. control is the byte that RDMAP keeps there, and is only passed on.
 #[derive(Drop)]
@@ -38,12 +39,11 @@ pub struct UntaggedHeader {
     pub mo: u32,
 }
 
-// What the first bytes of a ULPDU are.
+// A header of either kind.
 #[derive(Drop)]
-pub enum HeaderRead {
+pub enum Header {
     Tagged(TaggedHeader),
     Untagged(UntaggedHeader),
-    Refused(Refusal),
 }
 
 // Whether T is set in the first byte.
@@ -61,102 +61,103 @@ pub fn is_last(b: u8) -> bool
 }
 
 // Reads the header of a ULPDU whose T is set.
-fn read_tagged(ulpdu: &[u8]) -> HeaderRead
+#[tactic(auto, unfolding(crate::specs::Header::tagged_read, crate::specs::Header::tagged_fields))]
+fn read_tagged(ulpdu: &[u8]) -> Result<Header, Refusal>
     requires { 14 ≤ length ulpdu.now }
     ensures { result ≡ tagged_read ulpdu.now }
 {
     let b = ulpdu[0];
-    if b % 4 == 1 {
-        return HeaderRead::Tagged(TaggedHeader {
-            last: is_last(b),
-            control: ulpdu[1],
-            stag: wire::number::get_be32(ulpdu, 2),
-            to: wire::number::get_be64(ulpdu, 6),
-        });
+    if b % 4 != 1 {
+        return Err(TAGGED_VERSION);
     }
-    HeaderRead::Refused(TAGGED_VERSION)
+    Ok(Header::Tagged(TaggedHeader {
+        last: is_last(b),
+        control: ulpdu[1],
+        stag: get_be32(ulpdu, 2),
+        to: get_be64(ulpdu, 6),
+    }))
 }
 
 // Reads the header of a ULPDU whose T is clear.
-fn read_untagged(ulpdu: &[u8]) -> HeaderRead
+#[tactic(auto, unfolding(crate::specs::Header::untagged_read, crate::specs::Header::untagged_fields))]
+fn read_untagged(ulpdu: &[u8]) -> Result<Header, Refusal>
     requires { 14 ≤ length ulpdu.now }
     ensures { result ≡ untagged_read ulpdu.now }
 {
     if ulpdu.len() < 18 {
-        return HeaderRead::Refused(SEGMENT_TOO_SHORT);
+        return Err(SEGMENT_TOO_SHORT);
     }
     let b = ulpdu[0];
-    if b % 4 == 1 {
-        return HeaderRead::Untagged(UntaggedHeader {
-            last: is_last(b),
-            control: ulpdu[1],
-            stag: wire::number::get_be32(ulpdu, 2),
-            qn: wire::number::get_be32(ulpdu, 6),
-            msn: wire::number::get_be32(ulpdu, 10),
-            mo: wire::number::get_be32(ulpdu, 14),
-        });
+    if b % 4 != 1 {
+        return Err(UNTAGGED_VERSION);
     }
-    HeaderRead::Refused(UNTAGGED_VERSION)
+    Ok(Header::Untagged(UntaggedHeader {
+        last: is_last(b),
+        control: ulpdu[1],
+        stag: get_be32(ulpdu, 2),
+        qn: get_be32(ulpdu, 6),
+        msn: get_be32(ulpdu, 10),
+        mo: get_be32(ulpdu, 14),
+    }))
 }
 
 // Reads the header at the start of a ULPDU.
-pub fn read_header(ulpdu: &[u8]) -> HeaderRead
+#[tactic(auto, unfolding(crate::specs::Header::header_read))]
+pub fn read_header(ulpdu: &[u8]) -> Result<Header, Refusal>
     ensures { result ≡ header_read ulpdu.now }
 {
     if ulpdu.len() < 14 {
-        return HeaderRead::Refused(SEGMENT_TOO_SHORT);
+        return Err(SEGMENT_TOO_SHORT);
     }
-    let b = ulpdu[0];
-    if is_tagged(b) {
+    if is_tagged(ulpdu[0]) {
         return read_tagged(ulpdu);
     }
     read_untagged(ulpdu)
 }
 
 // The first byte: T, L and version 1.
+#[tactic(auto, unfolding(crate::specs::Header::control_of))]
 fn control_byte(tagged: bool, last: bool) -> u8
     ensures { result ≡ control_of tagged last }
 {
-    if tagged {
-        if last { 0xC1 } else { 0x81 }
-    } else {
-        if last { 0x41 } else { 0x01 }
-    }
+    (if tagged { 0x80 } else { 0 }) + (if last { 0x40 } else { 0 }) + 1
 }
 
 // Writes what both headers begin with: the first byte, RDMAP's byte and the STag.
+#[tactic(auto, unfolding(crate::specs::Header::start_bytes))]
 fn write_start(tagged: bool, last: bool, control: u8, stag: u32, out: &mut [u8])
     requires { 6 ≤ length out.old }
     ensures { out.new ≡ put out.old 0 (start_bytes tagged last control stag) }
 {
-    let first = control_byte(tagged, last);
-    out[0] = first;
+    out[0] = control_byte(tagged, last);
     out[1] = control;
-    wire::number::put_be32(out, 2, stag);
+    put_be32(out, 2, stag);
 }
 
 // Writes a tagged header at the start of out.
-pub fn write_tagged(h: TaggedHeader, out: &mut [u8]) -> Written
+#[tactic(auto, using(crate::proofs::Round::tagged_length, crate::proofs::Round::tagged_put), unfolding(crate::specs::Header::header_written, crate::specs::Header::written_out))]
+pub fn write_tagged(h: TaggedHeader, out: &mut [u8]) -> Result<usize, LocalRefusal>
     ensures { (result ≡ header_written 14 (length out.old)) × (out.new ≡ written_out (tagged_bytes h) out.old) }
 {
     if out.len() < 14 {
-        return Written::Refused(NO_ROOM);
+        return Err(LocalRefusal::NoRoom);
     }
     write_start(true, h.last, h.control, h.stag, out);
-    wire::number::put_be64(out, 6, h.to);
-    Written::Length(14)
+    put_be64(out, 6, h.to);
+    Ok(14)
 }
 
 // Writes an untagged header at the start of out.
-pub fn write_untagged(h: UntaggedHeader, out: &mut [u8]) -> Written
+#[tactic(auto, using(crate::proofs::Round::untagged_length, crate::proofs::Round::untagged_put), unfolding(crate::specs::Header::header_written, crate::specs::Header::written_out))]
+pub fn write_untagged(h: UntaggedHeader, out: &mut [u8]) -> Result<usize, LocalRefusal>
     ensures { (result ≡ header_written 18 (length out.old)) × (out.new ≡ written_out (untagged_bytes h) out.old) }
 {
     if out.len() < 18 {
-        return Written::Refused(NO_ROOM);
+        return Err(LocalRefusal::NoRoom);
     }
     write_start(false, h.last, h.control, h.stag, out);
-    wire::number::put_be32(out, 6, h.qn);
-    wire::number::put_be32(out, 10, h.msn);
-    wire::number::put_be32(out, 14, h.mo);
-    Written::Length(18)
+    put_be32(out, 6, h.qn);
+    put_be32(out, 10, h.msn);
+    put_be32(out, 14, h.mo);
+    Ok(18)
 }

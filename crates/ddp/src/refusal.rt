@@ -1,10 +1,12 @@
-// Refusals, by number in the order of the paper's two tables.
+// Refusals of the peer's bytes, by number in the order of the paper's table.
+ghost use Rattle.std.specs.Prelude.{◌≡◌};
+ghost use Rattle.ddp.specs.Segment.{framing};
 
-// A local refusal of this layer's writers: the output slice is too small.
-pub const NO_ROOM: u8 = 13;
+use mpa::FpduFault;
 
-// Peer refusals of framing and placement: the rows 20 to 32, each with the layer, error type and code
+// Those of framing and placement: the rows 20 to 32, each with the layer, error type and code
 // with which the stream ends.
+// Kept: numbers and no enum, since a device that a C program holds may have any of them (`phase_in` of `block`).
 #[repr(C)]
 #[derive(Clone, Copy)]
 pub struct Refusal {
@@ -12,6 +14,18 @@ pub struct Refusal {
     pub layer: u8,
     pub etype: u8,
     pub code: u8,
+}
+
+// An FPDU is refused by the framing layer's reason.
+impl From<FpduFault> for Refusal {
+    ghost from_gives = { λ fault r. r ≡ framing fault };
+
+    fn from(fault: FpduFault) -> Refusal {
+        match fault {
+            FpduFault::UlpduTooLong => ULPDU_TOO_LONG,
+            FpduFault::CrcError => CRC_ERROR,
+        }
+    }
 }
 
 pub const ULPDU_TOO_LONG: Refusal = Refusal {

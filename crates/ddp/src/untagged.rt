@@ -14,55 +14,44 @@ pub struct Queue {
     pub taken: u32,
 }
 
-// The payload goes to the message's bytes from start up to end, or is refused.
-#[derive(Drop)]
-pub enum Untagged {
-    At { start: u32, end: u32 },
-    Refused(Refusal),
-}
-
-// Judges the offset and the length of a payload for the message that a queue takes.
-fn judge_offset(q: Queue, mo: u32, len: u64) -> Untagged
+// Judges the offset and the length of a payload for the message that a queue takes: where it starts and ends
+// in the message.
+#[tactic(auto, unfolding(crate::specs::Untagged::untagged_in))]
+fn judge_offset(q: Queue, mo: u32, len: u64) -> Result<(u32, u32), Refusal>
     ensures { result ≡ untagged_in q mo len }
 {
-    let taken = q.taken;
-    let limit = q.limit as u64;
-    let at = mo as u64;
-    if mo == taken {
-        if limit < at {
-            return Untagged::Refused(MESSAGE_TOO_LONG);
-        }
-        if limit - at < len {
-            return Untagged::Refused(MESSAGE_TOO_LONG);
-        }
-        let sum = at + len;
-        let end = sum as u32;
-        return Untagged::At { start: mo, end };
+    if mo != q.taken {
+        return Err(INVALID_MO);
     }
-    Untagged::Refused(INVALID_MO)
+    let limit = u64::from(q.limit);
+    let at = u64::from(mo);
+    if limit < at || limit - at < len {
+        return Err(MESSAGE_TOO_LONG);
+    }
+    Ok((mo, (at + len) as u32))
 }
 
-// Judges an untagged payload of len bytes by q, what the queue qn expects.
-pub fn judge_untagged(q: Queue, qn: u32, msn: u32, mo: u32, len: u64) -> Untagged
+// Judges an untagged payload of len bytes by q, what the queue qn expects: the payload is the message's bytes
+// from the one number up to the other.
+#[tactic(auto, unfolding(crate::specs::Untagged::untagged_of))]
+pub fn judge_untagged(q: Queue, qn: u32, msn: u32, mo: u32, len: u64) -> Result<(u32, u32), Refusal>
     ensures { result ≡ untagged_of q qn msn mo len }
 {
     if 2 < qn {
-        return Untagged::Refused(INVALID_QN);
+        return Err(INVALID_QN);
     }
-    let room = q.room;
-    let next = msn == q.msn;
-    if next {
-        if room {
-            return judge_offset(q, mo, len);
-        }
-        return Untagged::Refused(NO_BUFFER);
+    if msn != q.msn {
+        return Err(INVALID_MSN);
     }
-    Untagged::Refused(INVALID_MSN)
+    if !q.room {
+        return Err(NO_BUFFER);
+    }
+    judge_offset(q, mo, len)
 }
 
 // The number of the message after one.
 pub fn next_msn(msn: u32) -> u32
     ensures { result ≡ next_msn msn }
 {
-    std::num::wrapping_add_u32(msn, 1)
+    msn.wrapping_add(1)
 }

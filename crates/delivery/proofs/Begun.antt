@@ -12,16 +12,17 @@ use Rattle.memory.specs.Window.{wraps}
 use Rattle.rdmap.specs.Message.{is_send}
 use Rattle.sender.specs.Message.{max32, sized, begun, write_begun, stag_held, send_begun}
 use Rattle.sender.specs.declared.Message.{Message}
-use Rattle.sender.specs.declared.Begun.TheVariants.{Ready, Refused as NotBegun}
 use Rattle.delivery.proofs.Send.{send_at}
 use Rattle.delivery.proofs.Write.{write_at}
+use Rattle.std.specs.Prelude.{Err, Ok}
+use Rattle.wire.specs.declared.refusal.LocalRefusal.TheVariants.{OutOfRange, OverLimit}
 
 -- a beginning that is accepted: its two tests hold, and the message is the one given
-accepted : (a : Bool) (limit : ℕ) (x m : Message) → pick a (begun limit x) (NotBegun 1) ≡ Ready m → (a ≡ true) × ((limit ≤ max_ulpdu) × (m ≡ x))
+accepted : (a : Bool) (limit : ℕ) (x m : Message) → pick a (begun limit x) (Err OutOfRange) ≡ Ok m → (a ≡ true) × ((limit ≤ max_ulpdu) × (m ≡ x))
 accepted false limit x m e = absurd (let no : ◌≡◌ {A = ℕ} 0 1 = cc in omega arith)
 accepted true limit x m e = (refl, go (leb limit max_ulpdu) refl e)
   where
-    go : (t : Bool) → leb limit max_ulpdu ≡ t → pick t (Ready x) (NotBegun 12) ≡ Ready m → (limit ≤ max_ulpdu) × (m ≡ x)
+    go : (t : Bool) → leb limit max_ulpdu ≡ t → pick t (Ok x) (Err OverLimit) ≡ Ok m → (limit ≤ max_ulpdu) × (m ≡ x)
     go false q e = absurd (let no : ◌≡◌ {A = ℕ} 0 1 = cc in omega arith)
     go true q e = (leb-true limit max_ulpdu q, let same : m ≡ x = cc in same)
 
@@ -34,7 +35,7 @@ pub record SendAccepted (limit opcode msn stag len : ℕ) (m : Message) : Type 0
   pub stag_fits : stag_held opcode stag ≤ max32
   pub is : m ≡ send_at limit opcode (stag_held opcode stag) msn len 0 false
 
-pub send-accepted : (limit opcode msn stag len : ℕ) (m : Message) → send_begun limit opcode msn stag len ≡ Ready m → SendAccepted limit opcode msn stag len m
+pub send-accepted : (limit opcode msn stag len : ℕ) (m : Message) → send_begun limit opcode msn stag len ≡ Ok m → SendAccepted limit opcode msn stag len m
 unfolding send_begun
 send-accepted limit opcode msn stag len m e =
     let a = accepted (both (sized limit len) (both (is_send opcode) (both (leb msn max32) (leb (stag_held opcode stag) max32)))) limit (send_at limit opcode (stag_held opcode stag) msn len 0 false) m e in
@@ -59,7 +60,7 @@ pub record WriteAccepted (limit stag to len : ℕ) (m : Message) : Type 0 where
   pub ends : to + len ≤ 18446744073709551616
   pub is : m ≡ write_at limit stag to len 0 false
 
-pub write-accepted : (limit stag to len : ℕ) (m : Message) → write_begun limit stag to len ≡ Ready m → WriteAccepted limit stag to len m
+pub write-accepted : (limit stag to len : ℕ) (m : Message) → write_begun limit stag to len ≡ Ok m → WriteAccepted limit stag to len m
 unfolding write_begun wraps
 write-accepted limit stag to len m e =
     let a = accepted (both (sized limit len) (both (leb stag max32) (not (wraps to len)))) limit (write_at limit stag to len 0 false) m e in

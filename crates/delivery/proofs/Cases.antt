@@ -18,12 +18,12 @@ use Rattle.domain.specs.declared.Domain.{Domain}
 use Rattle.sender.specs.Cut.{piece_of, ends_in}
 use Rattle.sender.specs.Message.{write_begun, send_begun, advanced, segments_of}
 use Rattle.sender.specs.declared.Message.{Message}
-use Rattle.sender.specs.declared.Begun.TheVariants.{Ready}
 use Rattle.delivery.specs.Delivery.{framed, fpdus_of, received_all}
 use Rattle.delivery.specs.Promise.{Open, SendRoom, WriteRoom, SendDelivered, WriteDelivered}
 use Rattle.delivery.proofs.Send.{send_at}
 use Rattle.delivery.proofs.Write.{write_at}
 use Rattle.delivery.proofs.Delivery.{begin_alone, send_delivered, write_delivered}
+use Rattle.std.specs.Prelude.{Ok}
 
 -- a part of 64 bytes; window 2 with key 7 and the write right, 16 bytes at 32, of base 1000; stream 1 open with the CRC on, which expects
 -- MSN 5 and has a buffer of 16 bytes at 8
@@ -54,7 +54,7 @@ opened = record { four = refl; inside = omega arith; ready = refl; whole = refl 
 abbrev sent : Message
 sent = send_at 20 4 519 5 6 0 false
 
-send-begun : send_begun 20 4 5 519 6 ≡ Ready sent
+send-begun : send_begun 20 4 5 519 6 ≡ Ok sent
 unfolding send_begun
 send-begun = refl
 
@@ -82,7 +82,7 @@ send_case = send_delivered 20 4 5 519 message sent send-begun held 0 1 zeros sen
 abbrev written : Message
 written = write_at 19 519 1004 6 0 false
 
-write-begun : write_begun 19 519 1004 6 ≡ Ready written
+write-begun : write_begun 19 519 1004 6 ≡ Ok written
 unfolding write_begun wraps
 write-begun = refl
 

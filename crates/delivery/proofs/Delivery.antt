@@ -14,20 +14,14 @@ use Rattle.wire.specs.Wire.{pick, put}
 use Rattle.mpa.specs.Fpdu.{fpdu_of}
 use Rattle.memory.specs.Window.{window_at, dropped, dropped_in, entering, refusing, dead_of, keeping, slot_named, found_in}
 use Rattle.memory.specs.declared.window.Window.{Window}
-use Rattle.memory.specs.declared.part.Outcome.TheVariants.{Done}
-use Rattle.memory.specs.declared.window.Found.TheVariants.{Slot}
 use Rattle.rdmap.specs.Message.{goes_on, takes_stag}
 use Rattle.rdmap.specs.Stream.{sent_on, no_stream}
-use Rattle.rdmap.specs.declared.message.Invalidate.{Invalidate}
-use Rattle.rdmap.specs.declared.message.Invalidate.TheVariants.{NoStag, Stag}
 use Rattle.rdmap.specs.declared.stream.Stream.{Stream}
 use Rattle.domain.specs.Domain.{stream_at}
 use Rattle.arrival.specs.Parts.{sent_event, killed}
 use Rattle.domain.specs.declared.Domain.{Domain}
-use Rattle.arrival.specs.declared.Event.TheVariants.{NoEvent}
 use Rattle.sender.specs.Message.{stag_held, write_begun, send_begun, segment_bytes, advanced, segments_of}
 use Rattle.sender.specs.declared.Message.{Message}
-use Rattle.sender.specs.declared.Begun.TheVariants.{Ready as Begins}
 use Rattle.delivery.specs.Delivery.{framed, fpdus_of, Begin, Outcome, received_all, with_event, events_of, answers_of, invalidates, sent_domain, written_domain}
 use Rattle.delivery.specs.Promise.{SendRoom, WriteRoom, buffer_of, window_of, event_of, SendDelivered, WriteDelivered}
 use Rattle.delivery.proofs.Begun.{SendAccepted, WriteAccepted, send-accepted, write-accepted}
@@ -36,6 +30,8 @@ use Rattle.delivery.proofs.Send.{send_at, Under, send-enough, send-received, sen
 use Rattle.delivery.proofs.Steps.{outcome_path, own-stream}
 use Rattle.delivery.proofs.Tagged.{put-none}
 use Rattle.delivery.proofs.Write.{write_at, write-enough, write-received, write-joined}
+use Rattle.std.specs.Prelude.{None, Ok, Option, Some}
+use Rattle.wire.specs.declared.refusal.LocalRefusal.TheVariants.{OutOfRange, WindowNotLive}
 
 -- the bytes given are the FPDUs, with none after them
 pub begin_alone : (fs : List (List ℕ)) → Begin fs fs
@@ -48,9 +44,9 @@ unfolding framed segments_of
 fpdus_some m message e = ap (λ (t : Bool). framed (pick t [] (segment_bytes m message ∷ segments_of m.len (advanced m) message))) e
 
 -- a Send's event is one
-said : (start len opcode : ℕ) (inv : Invalidate) → with_event (sent_event start len opcode inv) [] ≡ sent_event start len opcode inv ∷ []
-said start len opcode NoStag = refl
-said start len opcode (Stag slot stag) = refl
+said : (start len opcode : ℕ) (inv : Option (ℕ × ℕ)) → with_event (sent_event start len opcode inv) [] ≡ sent_event start len opcode inv ∷ []
+said start len opcode None = refl
+said start len opcode (Some (slot, stag)) = refl
 
 -- ---- the window that a Send invalidates
 
@@ -60,23 +56,23 @@ dead-there [] i w e = refl
 dead-there (x ∷ ws) zero w e = e
 dead-there (x ∷ ws) (suc i) w e = dead-there ws i w e
 
-dead_in : (w : Window) → (dropped_in w).window.live ≡ false
+dead_in : (w : Window) → (dropped_in w).1.live ≡ false
 unfolding dropped_in
 dead_in w = go w.live refl
   where
-    go : (t : Bool) → w.live ≡ t → (pick t (record { outcome = Done; window = dead_of w }) (keeping w 7)).window.live ≡ false
+    go : (t : Bool) → w.live ≡ t → (pick t (Ok tt, dead_of w) (keeping w WindowNotLive)).1.live ≡ false
     go true e = refl
     go false e = e
 
-dead-dropped : (ws : List Window) (i : ℕ) → i ≤ 15 → (window_at (dropped ws i).windows i).live ≡ false
+dead-dropped : (ws : List Window) (i : ℕ) → i ≤ 15 → (window_at (dropped ws i).1 i).live ≡ false
 unfolding dropped
 dead-dropped ws i h =
-    ap (λ (t : Bool). (window_at (pick t (entering ws i (dropped_in (window_at ws i))) (refusing ws 1)).windows i).live) (le-leb i 15 h)
-    ∙ dead-there ws i (dropped_in (window_at ws i)).window (dead_in (window_at ws i))
+    ap (λ (t : Bool). (window_at (pick t (entering ws i (dropped_in (window_at ws i))) (refusing ws OutOfRange)).1 i).live) (le-leb i 15 h)
+    ∙ dead-there ws i (dropped_in (window_at ws i)).1 (dead_in (window_at ws i))
 
 dead-killed : (ws : List Window) (opcode stag : ℕ) → takes_stag opcode ≡ true → (window_at (killed (invalidates opcode stag) ws) (slot_named stag)).live ≡ false
 dead-killed ws opcode stag e =
-    ap (λ (t : Bool). (window_at (killed (pick t (Stag (slot_named stag) stag) NoStag) ws) (slot_named stag)).live) e
+    ap (λ (t : Bool). (window_at (killed (pick {A = Option (ℕ × ℕ)} t (Some (slot_named stag, stag)) None) ws) (slot_named stag)).live) e
     ∙ dead-dropped ws (slot_named stag) (omega arith)
 
 -- ---- a Send
@@ -88,12 +84,12 @@ held-is opcode stag e = ap (λ (t : Bool). pick t stag 0) e
 held_same : (opcode stag : ℕ) → invalidates opcode (stag_held opcode stag) ≡ invalidates opcode stag
 held_same opcode stag = go (takes_stag opcode)
   where
-    go : (t : Bool) → pick t (Stag (slot_named (pick t stag 0)) (pick t stag 0)) NoStag ≡ pick t (Stag (slot_named stag) stag) NoStag
+    go : (t : Bool) → pick {A = Option (ℕ × ℕ)} t (Some (slot_named (pick t stag 0), pick t stag 0)) None ≡ pick t (Some (slot_named stag, stag)) None
     go true = refl
     go false = refl
 
 -- these are all of its FPDUs: more segments are not to be had
-pub send-all : (limit opcode msn stag : ℕ) (message : List ℕ) (m : Message) → send_begun limit opcode msn stag (length message) ≡ Begins m → (most : ℕ) → length message < most → framed (segments_of most m message) ≡ fpdus_of m message
+pub send-all : (limit opcode msn stag : ℕ) (message : List ℕ) (m : Message) → send_begun limit opcode msn stag (length message) ≡ Ok m → (most : ℕ) → length message < most → framed (segments_of most m message) ≡ fpdus_of m message
 send-all limit opcode msn stag message m begun most h =
     let a = send-accepted limit opcode msn stag (length message) m begun in
     ap (λ (x : Message). framed (segments_of most x message)) a.is
@@ -101,7 +97,7 @@ send-all limit opcode msn stag message m begun most h =
     ∙ ap (λ (x : Message). fpdus_of x message) (sym a.is)
 
 module _
-    (limit opcode msn stag : ℕ) (message : List ℕ) (m : Message) (begun : send_begun limit opcode msn stag (length message) ≡ Begins m)
+    (limit opcode msn stag : ℕ) (message : List ℕ) (m : Message) (begun : send_begun limit opcode msn stag (length message) ≡ Ok m)
     (d : Domain) (number slot : ℕ) (bytes : List ℕ) (room : SendRoom d number slot bytes opcode msn stag (length message))
     (inputs : List (List ℕ)) (begin : Begin inputs (fpdus_of m message))
   where
@@ -120,8 +116,8 @@ module _
       high = room.lies.upto;
     }
 
-    live : takes_stag opcode ≡ true → found_in (window_at d.windows (slot_named (stag_held opcode stag))) number (stag_held opcode stag) ≡ Slot (slot_named (stag_held opcode stag))
-    live e = subst (λ (x : ℕ). found_in (window_at d.windows (slot_named x)) number x ≡ Slot (slot_named x)) (sym (held-is opcode stag e)) (room.live e)
+    live : takes_stag opcode ≡ true → found_in (window_at d.windows (slot_named (stag_held opcode stag))) number (stag_held opcode stag) ≡ Ok (slot_named (stag_held opcode stag))
+    live e = subst (λ (x : ℕ). found_in (window_at d.windows (slot_named x)) number x ≡ Ok (slot_named x)) (sym (held-is opcode stag e)) (room.live e)
 
     begin_at : Begin inputs (fpdus_of (send_at limit opcode (stag_held opcode stag) msn (length message) 0 false) message)
     begin_at = subst (λ (x : Message). Begin inputs (fpdus_of x message)) a.is begin
@@ -139,8 +135,8 @@ module _
         ∙ send-received limit opcode (stag_held opcode stag) msn message a.low a.high a.short a.send a.msn-fits a.stag_fits
         d number slot room.opened.inside room.opened.four live (stream_at d slot) d.meter bytes inputs expected room.opened.whole begin_at
         ∙ outcome_path
-        (ap₂ (λ (i : Invalidate) (x : Message). answers_of (sent_event (buffer_of d slot).start (length message) opcode i) (fpdus_of x message)) (held_same opcode stag) (sym a.is))
-        (ap (λ (i : Invalidate). sent_domain d slot i (length message)) (held_same opcode stag))
+        (ap₂ (λ (i : Option (ℕ × ℕ)) (x : Message). answers_of (sent_event (buffer_of d slot).start (length message) opcode i) (fpdus_of x message)) (held_same opcode stag) (sym a.is))
+        (ap (λ (i : Option (ℕ × ℕ)). sent_domain d slot i (length message)) (held_same opcode stag))
         (ap (λ (n : ℕ). put bytes n message) (add-zero ((buffer_of d slot).start - d.part.start)))
 
     pub send_delivered : SendDelivered d slot bytes inputs (fpdus_of m message) opcode stag message (received_all d number slot bytes inputs)
@@ -164,7 +160,7 @@ module _
     }
 
 -- ---- a Write
-pub write-all : (limit stag to : ℕ) (message : List ℕ) (m : Message) → write_begun limit stag to (length message) ≡ Begins m → (most : ℕ) → length message < most → framed (segments_of most m message) ≡ fpdus_of m message
+pub write-all : (limit stag to : ℕ) (message : List ℕ) (m : Message) → write_begun limit stag to (length message) ≡ Ok m → (most : ℕ) → length message < most → framed (segments_of most m message) ≡ fpdus_of m message
 write-all limit stag to message m begun most h =
     let w = write-accepted limit stag to (length message) m begun in
     ap (λ (x : Message). framed (segments_of most x message)) w.is
@@ -172,7 +168,7 @@ write-all limit stag to message m begun most h =
     ∙ ap (λ (x : Message). fpdus_of x message) (sym w.is)
 
 module _
-    (limit stag to : ℕ) (message : List ℕ) (m : Message) (begun : write_begun limit stag to (length message) ≡ Begins m)
+    (limit stag to : ℕ) (message : List ℕ) (m : Message) (begun : write_begun limit stag to (length message) ≡ Ok m)
     (d : Domain) (number slot : ℕ) (bytes : List ℕ) (room : WriteRoom d number slot bytes stag to (length message))
     (inputs : List (List ℕ)) (begin : Begin inputs (fpdus_of m message))
   where
@@ -187,13 +183,13 @@ module _
 
     write-outcome :
         received_all d number slot bytes inputs
-        ≡ record { answers = answers_of NoEvent (fpdus_of m message); domain = written_domain d (length message); bytes = put bytes place message }
+        ≡ record { answers = answers_of None (fpdus_of m message); domain = written_domain d (length message); bytes = put bytes place message }
     write-outcome =
         ap (λ (x : Domain). received_all x number slot bytes inputs) (sym (own-stream d slot))
         ∙ write-received limit stag to message w.low w.high w.stag_fits w.ends
         d number slot room.opened.inside room.opened.four room.covers (λ l. ((room.lies l).from, (room.lies l).upto)) (stream_at d slot) d.meter bytes inputs room.opened.ready room.opened.whole begin_written
         ∙ outcome_path
-        (ap (λ (x : Message). answers_of NoEvent (fpdus_of x message)) (sym w.is))
+        (ap (λ (x : Message). answers_of None (fpdus_of x message)) (sym w.is))
         (ap (λ (x : Domain). written_domain x (length message)) (own-stream d slot))
         (ap (λ (n : ℕ). put bytes n message) (add-zero place))
 

@@ -16,7 +16,6 @@ use Rattle.rnic.specs.Rnic.{no_domain, domain_at, with_domain, bytes_of, with_by
 use Rattle.rnic.specs.declared.Rnic.{Rnic}
 use Rattle.sender.specs.Message.{write_begun, send_begun}
 use Rattle.sender.specs.declared.Message.{Message}
-use Rattle.sender.specs.declared.Begun.TheVariants.{Ready}
 use Rattle.delivery.specs.Delivery.{fpdus_of, Begin, Outcome, received_all, events_of}
 use Rattle.delivery.specs.Promise.{SendDelivered, WriteDelivered, buffer_of, window_of}
 use Rattle.delivery.specs.Device.{DeviceOutcome, rnic_received_all, owner_of, Fits, DeviceSendRoom, DeviceWriteRoom, DeviceSendDelivered, DeviceWriteDelivered}
@@ -24,6 +23,7 @@ use Rattle.delivery.proofs.Delivery.{send_delivered, write_delivered}
 use Rattle.delivery.proofs.Lifted.{all-lifted}
 use Rattle.delivery.proofs.Placed.{put-placed}
 use Rattle.delivery.proofs.Store.{put_in_store}
+use Rattle.std.specs.Prelude.{Ok}
 
 module _ (b : Rnic) (n : ℕ) (mem : List ℕ) (f : Fits b n mem) (inputs : List (List ℕ)) where
   abbrev owned : Outcome
@@ -56,7 +56,7 @@ module _ (b : Rnic) (n : ℕ) (mem : List ℕ) (f : Fits b n mem) (inputs : List
       ∙ put_in_store (owner_of b n).part.start (owner_of b n).part.end mem f.ordered f.within at message low high
 
   module _
-      (limit opcode msn stag : ℕ) (message : List ℕ) (m : Message) (begun : send_begun limit opcode msn stag (length message) ≡ Ready m)
+      (limit opcode msn stag : ℕ) (message : List ℕ) (m : Message) (begun : send_begun limit opcode msn stag (length message) ≡ Ok m)
       (room : DeviceSendRoom b n mem opcode msn stag (length message)) (begin : Begin inputs (fpdus_of m message))
     where
       sent : SendDelivered (owner_of b n) (n % 4) (bytes_of (owner_of b n) mem) inputs (fpdus_of m message) opcode stag message owned
@@ -77,7 +77,7 @@ module _ (b : Rnic) (n : ℕ) (mem : List ℕ) (f : Fits b n mem) (inputs : List
       }
 
   module _
-      (limit stag to : ℕ) (message : List ℕ) (m : Message) (begun : write_begun limit stag to (length message) ≡ Ready m)
+      (limit stag to : ℕ) (message : List ℕ) (m : Message) (begun : write_begun limit stag to (length message) ≡ Ok m)
       (room : DeviceWriteRoom b n mem stag to (length message)) (begin : Begin inputs (fpdus_of m message))
     where
       written : WriteDelivered (owner_of b n) (n % 4) (bytes_of (owner_of b n) mem) inputs (fpdus_of m message) stag to message owned

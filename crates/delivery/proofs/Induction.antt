@@ -15,13 +15,13 @@ use Rattle.meter.specs.declared.Meter.{Meter}
 use Rattle.domain.specs.Domain.{with_stream, with_meter}
 use Rattle.domain.specs.declared.Domain.{Domain}
 use Rattle.arrival.specs.declared.Event.{Event}
-use Rattle.arrival.specs.declared.Event.TheVariants.{NoEvent}
 use Rattle.arrival.specs.declared.Answer.TheVariants.{Taken}
 use Rattle.sender.specs.Cut.{piece_of, ends_in}
 use Rattle.delivery.specs.Delivery.{Begin, Outcome, answering, received_all, payload_in, payloads, event_then, answers_of}
 use Rattle.delivery.proofs.Cut.{piece_more, piece_long, last-part, piece_joined}
 use Rattle.delivery.proofs.Steps.{outcome_path}
 use Rattle.delivery.proofs.Counted.{counted_twice}
+use Rattle.std.specs.Prelude.{None, Ok, Option}
 
 begin_none : (inputs : List (List ℕ)) → Begin inputs [] → inputs ≡ []
 begin_none [] b = refl
@@ -47,7 +47,7 @@ module _ (room : ℕ) (pos : 1 ≤ room) (message : List ℕ) where
       (first_of : (most at : ℕ) → fpdus_from (suc most) at false ≡ fpdu_at at ∷ fpdus_from most (at + size_at at) (last_at at))
       (none_after : (most at : ℕ) → fpdus_from most at true ≡ [])
     where
-      some_after : (most at : ℕ) (e : Event) → 0 < most → event_then e (fpdus_from most at false) ≡ NoEvent
+      some_after : (most at : ℕ) (e : Option Event) → 0 < most → event_then e (fpdus_from most at false) ≡ None
       some_after zero at e h = absurd (omega arith)
       some_after (suc most) at e h = ap (event_then e) (first_of most at)
 
@@ -91,7 +91,7 @@ module _ (room : ℕ) (pos : 1 ≤ room) (message : List ℕ) where
       -- domain at the end, but for its meter, and where the message goes
       module _
           (d : Domain) (number slot : ℕ) (Inv : Stream → ℕ → Type 0) (next : Stream → ℕ → Stream)
-          (event : Stream → Event) (final : Stream → Domain) (base : Stream → ℕ)
+          (event : Stream → Option Event) (final : Stream → Domain) (base : Stream → ℕ)
         where
           -- the domain before one of them, with this stream and this meter
           abbrev pub before : Stream → Meter → Domain
@@ -118,7 +118,7 @@ module _ (room : ℕ) (pos : 1 ≤ room) (message : List ℕ) where
           More =
               (s : Stream) (m : Meter) (at : ℕ) (bytes rest : List ℕ) → at ≤ length message → Inv s at → Whole bytes → last_at at ≡ false → (inputs : List (List ℕ)) →
               received_all (before s m) number slot bytes ((fpdu_at at ++ rest) ∷ inputs)
-              ≡ answering (Taken (length (fpdu_at at)) NoEvent)
+              ≡ answering (Ok (Taken (length (fpdu_at at)) None))
               (received_all (before (next s at) (counted_meter m (length (payload_at at)))) number slot (put bytes (base s + at) (payload_at at)) inputs)
 
           -- the stream after it
@@ -178,9 +178,9 @@ module _ (room : ℕ) (pos : 1 ≤ room) (message : List ℕ) where
                     let n : ℕ = at + size_at at in
                     ap (λ (i : List ℕ). received_all (before s m) number slot bytes (i ∷ inputs)) b.0.1
                     ∙ one_more s m at bytes b.0.0 h u whole e inputs
-                    ∙ ap (answering (Taken (length (fpdu_at at)) NoEvent))
+                    ∙ ap (answering (Ok (Taken (length (fpdu_at at)) None)))
                     (others n (next s at) (counted_meter m (length (payload_at at))) (put bytes (base s + at) (payload_at at)) inputs (omega (arith, l.0)) (omega (arith, l.1)) k.inv (still-whole s at bytes h whole k) b.1)
                     ∙ outcome_path
-                    (ap₂ (λ (v w : Event). Taken (length (fpdu_at at)) v ∷ answers_of w (fpdus_from most n false)) (sym (some_after most n (event s) (omega (arith, l.0)))) k.event-same)
+                    (ap₂ (λ (v w : Option Event). Ok (Taken (length (fpdu_at at)) v) ∷ answers_of w (fpdus_from most n false)) (sym (some_after most n (event s) (omega (arith, l.0)))) k.event-same)
                     (both-counted s m at h k)
                     (both-put s at bytes h whole k)

@@ -18,11 +18,13 @@ use Rattle.domain.specs.declared.Domain.{Domain}
 use Rattle.holding.specs.Offer.{is_open, holds_at, domain_receives, domain_receives_bytes}
 use Rattle.rnic.specs.Rnic.{no_domain, domain_at, with_domain, bytes_of, with_bytes, rnic_received, rnic_received_store, received_owned, received_owned_store}
 use Rattle.rnic.specs.declared.Rnic.{Rnic}
-use Rattle.rnic.specs.declared.RnicReceived.{RnicReceived}
 use Rattle.delivery.specs.Delivery.{Outcome, received_all}
 use Rattle.delivery.specs.Device.{DeviceOutcome, answering_on, rnic_received_all, owner_of, Fits}
 use Rattle.delivery.proofs.Kept.{received_keeps, received_many, received-holds}
 use Rattle.delivery.proofs.Store.{mid_self, put-again}
+use Rattle.std.specs.Prelude.{Result}
+use Rattle.wire.specs.declared.refusal.LocalRefusal.{LocalRefusal}
+use Rattle.arrival.specs.declared.Answer.{Answer}
 
 -- a call whose stream's number, lent length and part are in order
 module _ (b : Rnic) (n : ℕ) (input mem : List ℕ) (e₁ : leb n 15 ≡ true) (e₂ : eqb (length mem) b.len ≡ true) (e₃ : part_fits (domain_at b (n / 4)).part (length mem) ≡ true) (e₄ : (stream_at (domain_at b (n / 4)) (n % 4)).framing.held ≡ 0) where
@@ -35,7 +37,7 @@ module _ (b : Rnic) (n : ℕ) (input mem : List ℕ) (e₁ : leb n 15 ≡ true) 
       go true false z q = refl
       go false y z q = refl
 
-  received_in : rnic_received b (length mem) n input ≡ record { answer = (domain_received (domain_at b (n / 4)) (n / 4) (n % 4) input).answer; rnic = with_domain b (n / 4) (domain_received (domain_at b (n / 4)) (n / 4) (n % 4) input).domain }
+  received_in : rnic_received b (length mem) n input ≡ ((domain_received (domain_at b (n / 4)) (n / 4) (n % 4) input).0, with_domain b (n / 4) (domain_received (domain_at b (n / 4)) (n / 4) (n % 4) input).1)
   unfolding rnic_received received_owned domain_receives
   received_in = simp (e₁, e₂, e₃, not-held)
 
@@ -91,11 +93,11 @@ module _ (b : Rnic) (n : ℕ) (mem : List ℕ) (f : Fits b n mem) where
     module _ (input : List ℕ) where
       answered :
           rnic_received (dev_with d) (length (mem_with bytes)) n input
-          ≡ record { answer = (domain_received d (n / 4) (n % 4) input).answer; rnic = dev_with (domain_received d (n / 4) (n % 4) input).domain }
+          ≡ ((domain_received d (n / 4) (n % 4) input).0, dev_with (domain_received d (n / 4) (n % 4) input).1)
       answered =
           received_in (dev_with d) n input (mem_with bytes) number_in length_in part_in_lem none_in
-          ∙ ap (λ (x : Domain). record { answer = (domain_received x (n / 4) (n % 4) input).answer; rnic = with_domain (dev_with d) (n / 4) (domain_received x (n / 4) (n % 4) input).domain }) own
-          ∙ ap (λ (x : Rnic). record { answer = (domain_received d (n / 4) (n % 4) input).answer; rnic = x }) (again d (domain_received d (n / 4) (n % 4) input).domain)
+          ∙ ap (λ (x : Domain). ((domain_received x (n / 4) (n % 4) input).0, with_domain (dev_with d) (n / 4) (domain_received x (n / 4) (n % 4) input).1)) own
+          ∙ ap (λ (x : Rnic). ((domain_received d (n / 4) (n % 4) input).0, x)) (again d (domain_received d (n / 4) (n % 4) input).1)
 
       stored : rnic_received_store (dev_with d) n input (mem_with bytes) ≡ mem_with (domain_received_bytes d (n / 4) (n % 4) input bytes)
       stored =
@@ -114,9 +116,9 @@ module _ (b : Rnic) (n : ℕ) (mem : List ℕ) (f : Fits b n mem) where
   unfolding rnic_received_all received_all
   from [] d bytes q l z = refl
   from (input ∷ inputs) d bytes q l z =
-      ap₂ (λ (x : RnicReceived) (z : List ℕ). answering_on x.answer (rnic_received_all x.rnic n z inputs)) (answered d bytes q l z input) (stored d bytes q l z input)
-      ∙ ap (answering_on (domain_received d (n / 4) (n % 4) input).answer)
-      (from inputs (domain_received d (n / 4) (n % 4) input).domain (domain_received_bytes d (n / 4) (n % 4) input bytes)
+      ap₂ (λ (x : Result Answer LocalRefusal × Rnic) (z : List ℕ). answering_on x.0 (rnic_received_all x.1 n z inputs)) (answered d bytes q l z input) (stored d bytes q l z input)
+      ∙ ap (answering_on (domain_received d (n / 4) (n % 4) input).0)
+      (from inputs (domain_received d (n / 4) (n % 4) input).1 (domain_received_bytes d (n / 4) (n % 4) input bytes)
       (received_keeps d (n / 4) (n % 4) input ∙ q) (received_many d (n / 4) (n % 4) input bytes ∙ l) (received-holds d (n / 4) (n % 4) input z))
 
   own_entry : with_domain b (n / 4) (owner_of b n) ≡ b

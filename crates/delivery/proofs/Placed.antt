@@ -9,9 +9,9 @@ use lib.Seq.{length-take-le, get_or-take, get_or-drop, take_at}
 use Rattle.wire.specs.Wire.{part, put}
 use Rattle.wire.proofs.Laws.{length-put, part-put, drop-put}
 use Rattle.arrival.specs.declared.Event.{Event}
-use Rattle.arrival.specs.declared.Event.TheVariants.{NoEvent}
 use Rattle.delivery.specs.Delivery.{with_event, events_of, answers_of}
 use Rattle.delivery.specs.Promise.{Placed}
+use Rattle.std.specs.Prelude.{None, Option}
 
 module _ (l : List ℕ) (at : ℕ) (xs : List ℕ) (h : at + length xs ≤ length l) where
   front : take at (put l at xs) ≡ take at l
@@ -40,13 +40,13 @@ module _ (l : List ℕ) (at : ℕ) (xs : List ℕ) (h : at + length xs ≤ lengt
   }
 
 -- no event, and one event
-pub none_said : (fs : List (List ℕ)) → events_of (answers_of NoEvent fs) ≡ []
+pub none_said : (fs : List (List ℕ)) → events_of (answers_of None fs) ≡ []
 unfolding events_of answers_of
 none_said [] = refl
 none_said (f ∷ []) = refl
 none_said (f ∷ g ∷ fs) = none_said (g ∷ fs)
 
-pub one-said : (e : Event) (f : List ℕ) (fs : List (List ℕ)) → events_of (answers_of e (f ∷ fs)) ≡ with_event e []
+pub one-said : (e : Option Event) (f : List ℕ) (fs : List (List ℕ)) → events_of (answers_of e (f ∷ fs)) ≡ with_event e []
 unfolding events_of answers_of
 one-said e f [] = refl
 one-said e f (g ∷ fs) = one-said e g fs

@@ -14,29 +14,24 @@ use Rattle.memory.specs.Window.{window_at, slot_named, found_in}
 use Rattle.memory.specs.declared.part.Part.{Part}
 use Rattle.memory.specs.declared.buffer.Buffer.{Buffer}
 use Rattle.memory.specs.declared.window.Window.{Window}
-use Rattle.memory.specs.declared.window.Found.TheVariants.{Slot}
 use Rattle.ddp.specs.Place.{fits, placed}
 use Rattle.ddp.specs.Segment.{segment_read}
 use Rattle.ddp.specs.Untagged.{untagged_in, untagged_of}
 use Rattle.ddp.specs.declared.header.UntaggedHeader.{UntaggedHeader}
 use Rattle.ddp.specs.declared.segment.SegmentRead.{SegmentRead}
 use Rattle.ddp.specs.declared.segment.SegmentRead.TheVariants.{Untagged as UntaggedSegment}
-use Rattle.ddp.specs.declared.untagged.Untagged.TheVariants.{At as UntaggedAt}
 use Rattle.rdmap.specs.Message.{opcode_of, controlled, after, is_send, goes_on, fits_queue, takes_stag, invalidated, send_verdict, message_verdict, stag_named, queue_of, untagged_verdict}
 use Rattle.rdmap.specs.Refusal.{rdmap_version, unexpected_opcode}
 use Rattle.rdmap.specs.Phase.{readiness}
 use Rattle.rdmap.specs.Sends.{current_buffer}
 use Rattle.rdmap.specs.Stream.{sending_on, sent_on}
-use Rattle.rdmap.specs.declared.message.Control.{Control}
-use Rattle.rdmap.specs.declared.message.Control.TheVariants.{Valid, Refused as ControlRefused}
-use Rattle.rdmap.specs.declared.message.Invalidate.TheVariants.{NoStag, Stag}
 use Rattle.rdmap.specs.declared.message.Verdict.{Verdict}
 use Rattle.rdmap.specs.declared.message.Verdict.TheVariants.{SendMore, SendLast}
-use Rattle.rdmap.specs.declared.phase.Readiness.TheVariants.{Ready}
 use Rattle.rdmap.specs.declared.stream.Stream.{Stream}
 use Rattle.arrival.specs.Parts.{sent_event, parts_taken, parts_applied, placed_from, applied_bytes, parts_verdict, parts_judged, parts_placed, parts_answered, parts_when, parts_bytes_when, parts_received, parts_received_bytes}
-use Rattle.arrival.specs.declared.Event.TheVariants.{NoEvent}
 use Rattle.delivery.specs.Delivery.{invalidates}
+use Rattle.std.specs.Prelude.{Err, None, Ok, Result, Some, ⊤}
+use Rattle.ddp.specs.declared.refusal.Refusal.{Refusal}
 
 -- what lies in the part is placed whole
 pub placed-whole :
@@ -54,7 +49,7 @@ send_header last opcode stag msn mo = record { last = last; control = (64 + opco
 
 -- a stream that expects len more bytes of a Send
 pub record Expects (s : Stream) (opcode msn mo len : ℕ) : Type 0 where
-  pub ready : readiness s.phase ≡ Ready
+  pub ready : readiness s.phase ≡ (Ok tt)
   pub send : is_send opcode ≡ true
   pub goes : goes_on s.sends.opcode opcode ≡ true
   pub expected : msn ≡ s.sends.msn
@@ -74,17 +69,17 @@ version_read opcode e = omega (arith, opcode_low opcode e)
 
 module _ (s : Stream) (opcode stag msn mo len : ℕ) (x : Expects s opcode msn mo len) where
   -- DDP lets it pass
-  passes : untagged_of (queue_of s 0) 0 msn mo len ≡ UntaggedAt mo (mo + len)
+  passes : untagged_of (queue_of s 0) 0 msn mo len ≡ Ok (mo, (mo + len))
   unfolding untagged_of untagged_in queue_of
   passes =
       simp (eq-eqb msn s.sends.msn x.expected, lt-ltb 0 s.sends.buffers.count x.waits, eq-eqb mo s.sends.taken x.taken, le-leb (mo + len) (current_buffer s.sends).len x.enough)
 
   -- and RDMAP its control byte
-  valid : controlled ((64 + opcode) % 256) (fits_queue 0 s.sends.opcode (opcode_of ((64 + opcode) % 256))) ≡ Valid
+  valid : controlled ((64 + opcode) % 256) (fits_queue 0 s.sends.opcode (opcode_of ((64 + opcode) % 256))) ≡ (Ok tt)
   valid =
       let under : ℕ = s.sends.opcode in
-      ap₂ (λ (v o : ℕ). pick (eqb v 1) (pick (both (is_send o) (goes_on under o)) Valid (ControlRefused unexpected_opcode)) (ControlRefused rdmap_version)) (version_read opcode x.send) (opcode_read opcode x.send)
-      ∙ ap₂ (λ (a b : Bool). pick (both a b) Valid (ControlRefused unexpected_opcode)) x.send x.goes
+      ap₂ (λ (v o : ℕ). pick (eqb v 1) (pick (both (is_send o) (goes_on under o)) (Ok tt) (Err unexpected_opcode)) (Err rdmap_version)) (version_read opcode x.send) (opcode_read opcode x.send)
+      ∙ ap₂ (λ (a b : Bool). pick (both a b) (Ok tt) (Err unexpected_opcode)) x.send x.goes
 
   -- so that it is judged as a Send
   judged :
@@ -97,36 +92,36 @@ module _ (s : Stream) (opcode stag msn mo len : ℕ) (x : Expects s opcode msn m
       let h : UntaggedHeader = send_header last opcode stag msn mo in
       ap (λ (n : ℕ). untagged_verdict w number s.sends.opcode b h payload (untagged_of (queue_of s 0) 0 msn mo n)) e
       ∙ ap (untagged_verdict w number s.sends.opcode b h payload) passes
-      ∙ ap (λ (k : Control). after k (message_verdict w number b h mo (mo + len) payload)) valid
+      ∙ ap (λ (k : Result ⊤ Refusal). after k (message_verdict w number b h mo (mo + len) payload)) valid
 
 -- a segment that is not the last, and one that is
-more_judged : (w : Window) (number : ℕ) (b : Buffer) (opcode stag msn mo end : ℕ) → is_send opcode ≡ true → send_verdict w number b (send_header false opcode stag msn mo) mo end ≡ SendMore (b.start + mo) opcode end
+more_judged : (w : Window) (number : ℕ) (b : Buffer) (opcode stag msn mo end : ℕ) → is_send opcode ≡ true → send_verdict w number b (send_header false opcode stag msn mo) mo end ≡ Ok (SendMore (b.start + mo) opcode end)
 unfolding send_verdict
-more_judged w number b opcode stag msn mo end e = ap (λ (o : ℕ). SendMore (b.start + mo) o end) (opcode_read opcode e)
+more_judged w number b opcode stag msn mo end e = ap (λ (o : ℕ). Ok (SendMore (b.start + mo) o end)) (opcode_read opcode e)
 
 last_judged :
-    (w : Window) (number : ℕ) (b : Buffer) (opcode stag msn mo end : ℕ) → is_send opcode ≡ true → (takes_stag opcode ≡ true → found_in w number stag ≡ Slot (slot_named stag)) →
-    send_verdict w number b (send_header true opcode stag msn mo) mo end ≡ SendLast (b.start + mo) opcode b.start end (invalidates opcode stag)
+    (w : Window) (number : ℕ) (b : Buffer) (opcode stag msn mo end : ℕ) → is_send opcode ≡ true → (takes_stag opcode ≡ true → found_in w number stag ≡ Ok (slot_named stag)) →
+    send_verdict w number b (send_header true opcode stag msn mo) mo end ≡ Ok (SendLast (b.start + mo) opcode b.start end (invalidates opcode stag))
 unfolding send_verdict
 last_judged w number b opcode stag msn mo end e f =
-    ap (λ (o : ℕ). pick (takes_stag o) (invalidated b o mo end stag (found_in w number stag)) (SendLast (b.start + mo) o b.start end NoStag)) (opcode_read opcode e)
+    ap (λ (o : ℕ). pick (takes_stag o) (invalidated b o mo end stag (found_in w number stag)) (Ok (SendLast (b.start + mo) o b.start end None))) (opcode_read opcode e)
     ∙ go (takes_stag opcode) f
   where
     go :
-        (t : Bool) → (t ≡ true → found_in w number stag ≡ Slot (slot_named stag)) →
-        pick t (invalidated b opcode mo end stag (found_in w number stag)) (SendLast (b.start + mo) opcode b.start end NoStag) ≡ SendLast (b.start + mo) opcode b.start end (pick t (Stag (slot_named stag) stag) NoStag)
+        (t : Bool) → (t ≡ true → found_in w number stag ≡ Ok (slot_named stag)) →
+        pick t (invalidated b opcode mo end stag (found_in w number stag)) (Ok (SendLast (b.start + mo) opcode b.start end None)) ≡ Ok (SendLast (b.start + mo) opcode b.start end (pick t (Some ((slot_named stag), stag)) None))
     go true g = ap (invalidated b opcode mo end stag) (g refl)
     go false g = refl
 
 -- what an open stream makes of an untagged segment that is read from the bytes, by its verdict
 module _
-    (p : Part) (ws : List Window) (number : ℕ) (s : Stream) (input payload bytes : List ℕ) (total start len : ℕ) (h : UntaggedHeader) (v : Verdict)
-    (ready : readiness s.phase ≡ Ready)
-    (read : segment_read s.framing.crc input ≡ UntaggedSegment total h start len)
+    (p : Part) (ws : List Window) (number : ℕ) (s : Stream) (input payload bytes : List ℕ) (total start len : ℕ) (h : UntaggedHeader) (v : Result Verdict Refusal)
+    (ready : readiness s.phase ≡ (Ok tt))
+    (read : segment_read s.framing.crc input ≡ Ok (UntaggedSegment total h start len))
     (there : part input start len ≡ payload)
     (verdict : untagged_verdict (window_at ws (slot_named (stag_named h payload))) number s.sends.opcode (current_buffer s.sends) h payload (untagged_of (queue_of s h.qn) h.qn h.msn h.mo (length payload)) ≡ v)
   where
-    found : parts_verdict ws number s input (UntaggedSegment total h start len) ≡ v
+    found : parts_verdict ws number s input (Ok (UntaggedSegment total h start len)) ≡ v
     found =
         ap (λ (l : List ℕ). untagged_verdict (window_at ws (slot_named (stag_named h l))) number s.sends.opcode (current_buffer s.sends) h l (untagged_of (queue_of s h.qn) h.qn h.msn h.mo (length l))) there
         ∙ verdict
@@ -135,7 +130,7 @@ module _
     unfolding parts_received
     untagged_answered =
         ap (parts_when ws number s input) ready
-        ∙ ap (λ (r : SegmentRead). parts_answered s (parts_judged ws number s input r)) read
+        ∙ ap (λ (r : Result SegmentRead Refusal). parts_answered s (parts_judged ws number s input r)) read
         ∙ ap (parts_applied s total) found
 
     untagged_placed : parts_received_bytes p ws number s input bytes ≡ applied_bytes p.start v payload bytes
@@ -143,25 +138,25 @@ module _
     untagged_placed =
         ap (parts_bytes_when p ws number s input bytes) ready
         ∙ ap (parts_placed p ws number s input bytes) read
-        ∙ ap₂ (λ (x : Verdict) (l : List ℕ). applied_bytes p.start x l bytes) found there
+        ∙ ap₂ (λ (x : Result Verdict Refusal) (l : List ℕ). applied_bytes p.start x l bytes) found there
 
 -- a Send's segment, received
 module _
     (p : Part) (ws : List Window) (number : ℕ) (s : Stream) (input payload bytes : List ℕ) (total start opcode stag msn mo : ℕ) (last : Bool)
     (x : Expects s opcode msn mo (length payload))
-    (read : segment_read s.framing.crc input ≡ UntaggedSegment total (send_header last opcode stag msn mo) start (length payload))
+    (read : segment_read s.framing.crc input ≡ Ok (UntaggedSegment total (send_header last opcode stag msn mo) start (length payload)))
     (there : part input start (length payload) ≡ payload)
   where
     module _ (e : last ≡ false) where
       more_verdict :
           untagged_verdict (window_at ws (slot_named stag)) number s.sends.opcode (current_buffer s.sends) (send_header last opcode stag msn mo) payload (untagged_of (queue_of s 0) 0 msn mo (length payload))
-          ≡ SendMore ((current_buffer s.sends).start + mo) opcode (mo + length payload)
+          ≡ Ok (SendMore ((current_buffer s.sends).start + mo) opcode (mo + length payload))
       more_verdict =
           judged s opcode stag msn mo (length payload) x (window_at ws (slot_named stag)) number last payload refl
           ∙ ap (λ (l : Bool). send_verdict (window_at ws (slot_named stag)) number (current_buffer s.sends) (send_header l opcode stag msn mo) mo (mo + length payload)) e
           ∙ more_judged (window_at ws (slot_named stag)) number (current_buffer s.sends) opcode stag msn mo (mo + length payload) x.send
 
-      pub more_answered : parts_received ws number s input ≡ parts_taken (sending_on s opcode (mo + length payload)) total NoEvent NoStag
+      pub more_answered : parts_received ws number s input ≡ parts_taken (sending_on s opcode (mo + length payload)) total None None
       unfolding parts_applied
       more_answered = untagged_answered p ws number s input payload bytes total start (length payload) (send_header last opcode stag msn mo) _ x.ready read there more_verdict
 
@@ -169,10 +164,10 @@ module _
       unfolding applied_bytes
       more_placed = untagged_placed p ws number s input payload bytes total start (length payload) (send_header last opcode stag msn mo) _ x.ready read there more_verdict
 
-    module _ (e : last ≡ true) (f : takes_stag opcode ≡ true → found_in (window_at ws (slot_named stag)) number stag ≡ Slot (slot_named stag)) where
+    module _ (e : last ≡ true) (f : takes_stag opcode ≡ true → found_in (window_at ws (slot_named stag)) number stag ≡ Ok (slot_named stag)) where
       last_verdict :
           untagged_verdict (window_at ws (slot_named stag)) number s.sends.opcode (current_buffer s.sends) (send_header last opcode stag msn mo) payload (untagged_of (queue_of s 0) 0 msn mo (length payload))
-          ≡ SendLast ((current_buffer s.sends).start + mo) opcode (current_buffer s.sends).start (mo + length payload) (invalidates opcode stag)
+          ≡ Ok (SendLast ((current_buffer s.sends).start + mo) opcode (current_buffer s.sends).start (mo + length payload) (invalidates opcode stag))
       last_verdict =
           judged s opcode stag msn mo (length payload) x (window_at ws (slot_named stag)) number last payload refl
           ∙ ap (λ (l : Bool). send_verdict (window_at ws (slot_named stag)) number (current_buffer s.sends) (send_header l opcode stag msn mo) mo (mo + length payload)) e

@@ -11,7 +11,6 @@ use Rattle.wire.specs.Wire.{pick, part, put}
 use Rattle.mpa.specs.Fpdu.{max_ulpdu, total_of, fpdu_of}
 use Rattle.mpa.proofs.Frames.{length_fpdu}
 use Rattle.memory.specs.Window.{window_at, slot_named, found_in}
-use Rattle.memory.specs.declared.window.Found.TheVariants.{Slot}
 use Rattle.ddp.specs.Header.{untagged_bytes}
 use Rattle.ddp.specs.Segment.{segment_read}
 use Rattle.ddp.specs.declared.header.UntaggedHeader.{UntaggedHeader}
@@ -21,8 +20,6 @@ use Rattle.rdmap.specs.Message.{is_send, goes_on, takes_stag}
 use Rattle.rdmap.specs.Phase.{readiness}
 use Rattle.rdmap.specs.Sends.{current_buffer}
 use Rattle.rdmap.specs.Stream.{sending_on, sent_on}
-use Rattle.rdmap.specs.declared.message.Invalidate.TheVariants.{NoStag}
-use Rattle.rdmap.specs.declared.phase.Readiness.TheVariants.{Ready}
 use Rattle.rdmap.specs.declared.stream.Stream.{Stream}
 use Rattle.meter.specs.Gauge.{counted_meter}
 use Rattle.meter.specs.declared.Meter.{Meter}
@@ -30,7 +27,6 @@ use Rattle.domain.specs.Domain.{with_stream, with_meter}
 use Rattle.arrival.specs.Parts.{sent_event, parts_taken, placed_from, killed}
 use Rattle.domain.specs.declared.Domain.{Domain}
 use Rattle.arrival.specs.declared.Event.{Event}
-use Rattle.arrival.specs.declared.Event.TheVariants.{NoEvent}
 use Rattle.arrival.specs.declared.Answer.TheVariants.{Taken}
 use Rattle.sender.specs.Cut.{piece_of, ends_in}
 use Rattle.sender.specs.Message.{max32, header_bytes, segment_bytes, advanced, segments_of}
@@ -41,6 +37,7 @@ use Rattle.delivery.proofs.Framed.{untagged_framed, untagged_payload}
 use Rattle.delivery.proofs.Segment.{placed-whole, send_header, Expects, more_answered, more_placed, last_answered, last-placed}
 use Rattle.delivery.proofs.Steps.{outcome_path, received-next}
 use Rattle.delivery.proofs.Induction.{Kept, enough, received, joined}
+use Rattle.std.specs.Prelude.{None, Ok, Option}
 
 -- a Send's message, so many bytes of it written
 abbrev pub send_at : (limit opcode stag msn len at : ℕ) (done : Bool) → Message
@@ -49,7 +46,7 @@ send_at limit opcode stag msn len at done =
 
 -- a stream on which so many bytes of a Send of len bytes are taken, and that has room for the others in its domain's part
 pub record Under (d : Domain) (s : Stream) (opcode msn len at : ℕ) : Type 0 where
-  pub ready : readiness s.phase ≡ Ready
+  pub ready : readiness s.phase ≡ (Ok tt)
   pub goes : goes_on s.sends.opcode opcode ≡ true
   pub expected : msn ≡ s.sends.msn
   pub taken : at ≡ s.sends.taken
@@ -110,11 +107,11 @@ module _
           length_fpdu (untagged_bytes (header_at at) ++ payload_at at)
           ∙ ap total_of (length-append (untagged_bytes (header_at at)) (payload_at at) ∙ ap (λ (n : ℕ). n + length (payload_at at)) (untagged_length (header_at at)))
 
-      pub carried : (crc : Bool) (rest : List ℕ) → segment_read crc (fpdu_at at ++ rest) ≡ UntaggedSegment (length (fpdu_at at)) (header_at at) 20 (length (payload_at at))
+      pub carried : (crc : Bool) (rest : List ℕ) → segment_read crc (fpdu_at at ++ rest) ≡ Ok (UntaggedSegment (length (fpdu_at at)) (header_at at) 20 (length (payload_at at)))
       carried crc rest =
           untagged_framed crc (header_at at) (payload_at at) rest (omega arith) (omega arith) (omega arith) (omega arith)
           (omega (arith, long, (piece_le (limit - 18) (length message - at)).1))
-          ∙ ap (λ (n : ℕ). UntaggedSegment n (header_at at) 20 (length (payload_at at))) (sym total)
+          ∙ ap (λ (n : ℕ). Ok (UntaggedSegment n (header_at at) 20 (length (payload_at at)))) (sym total)
 
       pub there : (rest : List ℕ) → part (fpdu_at at ++ rest) 20 (length (payload_at at)) ≡ payload_at at
       there rest = untagged_payload true (header_at at) (payload_at at) rest
@@ -131,9 +128,9 @@ module _
 
     module _
         (d : Domain) (number slot : ℕ) (inside : slot < 4) (four : length d.streams ≡ 4)
-        (live : takes_stag opcode ≡ true → found_in (window_at d.windows (slot_named stag)) number stag ≡ Slot (slot_named stag))
+        (live : takes_stag opcode ≡ true → found_in (window_at d.windows (slot_named stag)) number stag ≡ Ok (slot_named stag))
       where
-        abbrev event_of : Stream → Event
+        abbrev event_of : Stream → Option Event
         event_of s = sent_event (current_buffer s.sends).start (length message) opcode (invalidates opcode stag)
 
         abbrev domain_of : Stream → Domain
@@ -185,7 +182,7 @@ module _
               (last_answered d.part d.windows number s input (payload_at at) bytes (length (fpdu_at at)) 20 opcode stag msn at (last_at at) expects (carried at h s.framing.crc rest) (there at h rest) e live)
               (last-placed d.part d.windows number s input (payload_at at) bytes (length (fpdu_at at)) 20 opcode stag msn at (last_at at) expects (carried at h s.framing.crc rest) (there at h rest) e live ∙ in_place)
               ∙ outcome_path
-              (ap (λ (n : ℕ). Taken (length (fpdu_at at)) (sent_event b n opcode (invalidates opcode stag)) ∷ []) end)
+              (ap (λ (n : ℕ). Ok (Taken (length (fpdu_at at)) (sent_event b n opcode (invalidates opcode stag))) ∷ []) end)
               (ap (λ (l : List ℕ). with_meter (domain_of s) (counted_meter m (length l))) (last-part (limit - 18) message at h e))
               (ap (put bytes (base_of s + at)) (last-part (limit - 18) message at h e))
 
@@ -193,13 +190,13 @@ module _
           one_more :
               last_at at ≡ false → (inputs : List (List ℕ)) →
               received_all (with_meter (with_stream d slot s) m) number slot bytes ((fpdu_at at ++ rest) ∷ inputs)
-              ≡ answering (Taken (length (fpdu_at at)) NoEvent)
+              ≡ answering (Ok (Taken (length (fpdu_at at)) None))
               (received_all (with_meter (with_stream d slot (sending_on s opcode (at + size_at at))) (counted_meter m (length (payload_at at)))) number slot (put bytes (base_of s + at) (payload_at at)) inputs)
           one_more e inputs =
               let input : List ℕ = fpdu_at at ++ rest in
               received-next (with_meter d m) number slot inside four s input bytes (put bytes (base_of s + at) (payload_at at)) _ _ inputs (carried at h s.framing.crc rest)
               (more_answered d.part d.windows number s input (payload_at at) bytes (length (fpdu_at at)) 20 opcode stag msn at (last_at at) expects (carried at h s.framing.crc rest) (there at h rest) e
-              ∙ ap (λ (n : ℕ). parts_taken (sending_on s opcode (at + n)) (length (fpdu_at at)) NoEvent NoStag) (long at h))
+              ∙ ap (λ (n : ℕ). parts_taken (sending_on s opcode (at + n)) (length (fpdu_at at)) None None) (long at h))
               (more_placed d.part d.windows number s input (payload_at at) bytes (length (fpdu_at at)) 20 opcode stag msn at (last_at at) expects (carried at h s.framing.crc rest) (there at h rest) e ∙ in_place)
 
         -- the stream after it

@@ -15,13 +15,15 @@ use Rattle.rdmap.specs.Stream.{no_stream}
 use Rattle.domain.specs.Domain.{stream_at, with_stream, metered, metered_of, domain_received, domain_received_bytes, lifted}
 use Rattle.arrival.specs.Parts.{parts_received, parts_received_bytes, killed}
 use Rattle.arrival.specs.declared.Answer.{Answer}
-use Rattle.arrival.specs.declared.Answer.TheVariants.{Refused}
 use Rattle.domain.specs.declared.Domain.{Domain}
-use Rattle.domain.specs.declared.Received.{Received}
 use Rattle.arrival.specs.declared.parts.PartsReceived.{PartsReceived}
 use Rattle.delivery.specs.Delivery.{Outcome, answering, received_all}
+use Rattle.std.specs.Prelude.{Err, Result}
+use Rattle.ddp.specs.declared.refusal.Refusal.{Refusal}
+use Rattle.wire.specs.declared.refusal.LocalRefusal.{LocalRefusal}
+use Rattle.wire.specs.declared.refusal.LocalRefusal.TheVariants.{OutOfRange}
 
-pub outcome_path : {a b : List Answer} {x y : Domain} {p q : List ℕ} → a ≡ b → x ≡ y → p ≡ q → ◌≡◌ {A = Outcome} (record { answers = a; domain = x; bytes = p }) (record { answers = b; domain = y; bytes = q })
+pub outcome_path : {a b : List (Result Answer LocalRefusal)} {x y : Domain} {p q : List ℕ} → a ≡ b → x ≡ y → p ≡ q → ◌≡◌ {A = Outcome} (record { answers = a; domain = x; bytes = p }) (record { answers = b; domain = y; bytes = q })
 outcome_path u v w i = record { answers = u i; domain = v i; bytes = w i }
 
 -- the domain with its own stream
@@ -33,7 +35,7 @@ module _ (d : Domain) (number slot : ℕ) (h : slot < 4) (four : length d.stream
   there = get_or-set_same d.streams slot s no_stream (omega arith)
 
   again : (r : PartsReceived) → lifted (with_stream d slot s) slot r ≡ lifted d slot r
-  again r i = record { answer = r.answer; domain = record { part = d.part; windows = killed r.invalidate d.windows; streams = set-set d.streams slot s r.stream i; meter = d.meter } }
+  again r i = (r.answer, record { part = d.part; windows = killed r.invalidate d.windows; streams = set-set d.streams slot s r.stream i; meter = d.meter })
 
   -- one FPDU, where the slot has the stream s
   module _ (input : List ℕ) where
@@ -41,7 +43,7 @@ module _ (d : Domain) (number slot : ℕ) (h : slot < 4) (four : length d.stream
     unfolding domain_received
     received-one =
         let e : Domain = with_stream d slot s in
-        ap (λ (t : Bool). pick t (metered_of (segment_read (stream_at e slot).framing.crc input) (lifted e slot (parts_received d.windows number (stream_at e slot) input))) (record { answer = Refused 1; domain = e })) (le-leb slot 3 (omega arith))
+        ap (λ (t : Bool). pick t (metered_of (segment_read (stream_at e slot).framing.crc input) (lifted e slot (parts_received d.windows number (stream_at e slot) input))) (Err OutOfRange, e)) (le-leb slot 3 (omega arith))
         ∙ ap (λ (x : Stream). metered_of (segment_read x.framing.crc input) (lifted e slot (parts_received d.windows number x input))) there
         ∙ ap (metered_of (segment_read s.framing.crc input)) (again (parts_received d.windows number s input))
 
@@ -53,10 +55,10 @@ module _ (d : Domain) (number slot : ℕ) (h : slot < 4) (four : length d.stream
 
     -- and the others after it
     pub received-next :
-        (bytes after : List ℕ) (x : SegmentRead) (r : PartsReceived) (rest : List (List ℕ)) →
+        (bytes after : List ℕ) (x : Result SegmentRead Refusal) (r : PartsReceived) (rest : List (List ℕ)) →
         segment_read s.framing.crc input ≡ x → parts_received d.windows number s input ≡ r → parts_received_bytes d.part d.windows number s input bytes ≡ after →
-        received_all (with_stream d slot s) number slot bytes (input ∷ rest) ≡ answering r.answer (received_all (metered r.answer x (lifted d slot r).domain) number slot after rest)
+        received_all (with_stream d slot s) number slot bytes (input ∷ rest) ≡ answering r.answer (received_all (metered r.answer x (lifted d slot r).1) number slot after rest)
     unfolding received_all
     received-next bytes after x r rest q e b =
-        ap₂ (λ (y : Received) (l : List ℕ). answering y.answer (received_all y.domain number slot l rest))
-        (received-one ∙ ap₂ (λ (y : SegmentRead) (p : PartsReceived). metered_of y (lifted d slot p)) q e) (bytes_one bytes ∙ b)
+        ap₂ (λ (y : Result Answer LocalRefusal × Domain) (l : List ℕ). answering y.0 (received_all y.1 number slot l rest))
+        (received-one ∙ ap₂ (λ (y : Result SegmentRead Refusal) (p : PartsReceived). metered_of y (lifted d slot p)) q e) (bytes_one bytes ∙ b)

@@ -3,11 +3,11 @@
 use Prim.Native.Nat.{ℕ, ◌<◌}
 use mathlib.Core.Path.{◌≡◌}
 use Rattle.memory.specs.Window.{slot_named, found_in}
-use Rattle.memory.specs.declared.window.Found.TheVariants.{Slot}
 use Rattle.memory.proofs.Inside.{WindowsIn, BuffersIn, found-live}
 use Rattle.domain.specs.Domain.{stream_at}
 use Rattle.domain.specs.declared.Domain.{Domain}
 use Rattle.delivery.specs.Promise.{Within, buffer_of, window_of}
+use Rattle.std.specs.Prelude.{Ok}
 
 pub buffer-within :
     (d : Domain) (slot : ℕ) → BuffersIn d.part (stream_at d slot).sends.buffers → 0 < (stream_at d slot).sends.buffers.count →
@@ -15,7 +15,7 @@ pub buffer-within :
 buffer-within d slot all waits = let b = all 0 waits in record { from = b.0; upto = b.1 }
 
 pub window-within :
-    (d : Domain) (number stag : ℕ) → WindowsIn d.part d.windows → found_in (window_of d stag) number stag ≡ Slot (slot_named stag) →
+    (d : Domain) (number stag : ℕ) → WindowsIn d.part d.windows → found_in (window_of d stag) number stag ≡ Ok (slot_named stag) →
     Within d.part (window_of d stag).place (window_of d stag).len
 window-within d number stag all found =
     let w = all (slot_named stag) (found-live (window_of d stag) number stag (slot_named stag) found) in

@@ -16,13 +16,11 @@ use Rattle.ddp.specs.declared.header.TaggedHeader.{TaggedHeader}
 use Rattle.ddp.specs.declared.segment.SegmentRead.TheVariants.{Tagged as TaggedSegment}
 use Rattle.ddp.proofs.Round.{tagged_length}
 use Rattle.rdmap.specs.Phase.{readiness}
-use Rattle.rdmap.specs.declared.phase.Readiness.TheVariants.{Ready}
 use Rattle.rdmap.specs.declared.stream.Stream.{Stream}
 use Rattle.meter.specs.Gauge.{counted_meter}
 use Rattle.meter.specs.declared.Meter.{Meter}
 use Rattle.domain.specs.Domain.{with_stream, with_meter}
 use Rattle.domain.specs.declared.Domain.{Domain}
-use Rattle.arrival.specs.declared.Event.TheVariants.{NoEvent}
 use Rattle.arrival.specs.declared.Answer.TheVariants.{Taken}
 use Rattle.sender.specs.Cut.{piece_of, ends_in}
 use Rattle.sender.specs.Message.{max32, header_bytes, segment_bytes, advanced, segments_of}
@@ -34,6 +32,7 @@ use Rattle.delivery.proofs.Framed.{tagged_framed, tagged_payload}
 use Rattle.delivery.proofs.Tagged.{write_header, write_answered, write-placed}
 use Rattle.delivery.proofs.Steps.{outcome_path, received-next}
 use Rattle.delivery.proofs.Induction.{enough, received, joined}
+use Rattle.std.specs.Prelude.{None, Ok}
 
 -- a Write's message, so many bytes of it written
 abbrev pub write_at : (limit stag to len at : ℕ) (done : Bool) → Message
@@ -88,11 +87,11 @@ module _
           length_fpdu (tagged_bytes (header_at at) ++ payload_at at)
           ∙ ap total_of (length-append (tagged_bytes (header_at at)) (payload_at at) ∙ ap (λ (n : ℕ). n + length (payload_at at)) (tagged_length (header_at at)))
 
-      carried : (crc : Bool) (rest : List ℕ) → segment_read crc (fpdu_at at ++ rest) ≡ TaggedSegment (length (fpdu_at at)) (header_at at) 16 (length (payload_at at))
+      carried : (crc : Bool) (rest : List ℕ) → segment_read crc (fpdu_at at ++ rest) ≡ Ok (TaggedSegment (length (fpdu_at at)) (header_at at) 16 (length (payload_at at)))
       carried crc rest =
           tagged_framed crc (header_at at) (payload_at at) rest (omega arith) (omega arith)
           (omega (arith, long, (piece_le (limit - 14) (length message - at)).1))
-          ∙ ap (λ (n : ℕ). TaggedSegment n (header_at at) 16 (length (payload_at at))) (sym total)
+          ∙ ap (λ (n : ℕ). Ok (TaggedSegment n (header_at at) 16 (length (payload_at at)))) (sym total)
 
       there : (rest : List ℕ) → part (fpdu_at at ++ rest) 16 (length (payload_at at)) ≡ payload_at at
       there rest = tagged_payload true (header_at at) (payload_at at) rest
@@ -128,7 +127,7 @@ module _
 
         abbrev outcome_at : Stream → Meter → ℕ → List ℕ → List (List ℕ) → Outcome
         outcome_at s m at bytes fs = record {
-          answers = answers_of NoEvent fs;
+          answers = answers_of None fs;
           domain = with_meter (with_stream d slot s) (counted_meter m (length (drop at message)));
           bytes = put bytes (base + at) (drop at message);
         }
@@ -148,12 +147,12 @@ module _
               let z = lies (omega (arith, ends at h)) in
               omega (arith, to_is at h l, c.above, z.0)
 
-          module _ (s : Stream) (m : Meter) (ready : readiness s.phase ≡ Ready) (bytes rest : List ℕ) (whole : length bytes ≡ d.part.end - d.part.start) where
+          module _ (s : Stream) (m : Meter) (ready : readiness s.phase ≡ (Ok tt)) (bytes rest : List ℕ) (whole : length bytes ≡ d.part.end - d.part.start) where
             -- any one of them
             one :
                 (inputs : List (List ℕ)) →
                 received_all (with_meter (with_stream d slot s) m) number slot bytes ((fpdu_at at ++ rest) ∷ inputs)
-                ≡ answering (Taken (length (fpdu_at at)) NoEvent)
+                ≡ answering (Ok (Taken (length (fpdu_at at)) None))
                 (received_all (with_meter (with_stream d slot s) (counted_meter m (length (payload_at at)))) number slot (put bytes (base + at) (payload_at at)) inputs)
             one inputs =
                 let input : List ℕ = fpdu_at at ++ rest in
@@ -177,12 +176,12 @@ module _
               omega (arith, piece_fits (limit - 14) message at h, c.above, c.below, z.0, z.1)
 
         pub write-received :
-            (s : Stream) (m : Meter) (bytes : List ℕ) (inputs : List (List ℕ)) → readiness s.phase ≡ Ready → length bytes ≡ d.part.end - d.part.start →
+            (s : Stream) (m : Meter) (bytes : List ℕ) (inputs : List (List ℕ)) → readiness s.phase ≡ (Ok tt) → length bytes ≡ d.part.end - d.part.start →
             Begin inputs (fpdus_from (suc (length message)) 0 false) →
             received_all (with_meter (with_stream d slot s) m) number slot bytes inputs ≡ outcome_at s m 0 bytes (fpdus_from (suc (length message)) 0 false)
         write-received s m bytes inputs ready whole b =
             received (limit - 14) room message fpdu_at fpdus_from first_of none_after d number slot
-            (λ (s : Stream) (at : ℕ). readiness s.phase ≡ Ready) (λ (s : Stream) (at : ℕ). s) (λ (s : Stream). NoEvent) (λ (s : Stream). with_stream d slot s) (λ (s : Stream). base)
+            (λ (s : Stream) (at : ℕ). readiness s.phase ≡ (Ok tt)) (λ (s : Stream) (at : ℕ). s) (λ (s : Stream). None) (λ (s : Stream). with_stream d slot s) (λ (s : Stream). base)
             (λ s m at bytes rest h u whole e. last_one at h s m u bytes rest whole e) (λ s m at bytes rest h u whole e inputs. one at h s m u bytes rest whole inputs)
             (λ s at h u e. record { inv = u; event-same = refl; final_same = refl; base_same = refl; fits = in_part_lem at h e })
             (suc (length message)) 0 s m bytes inputs (omega arith) (omega arith) ready whole b

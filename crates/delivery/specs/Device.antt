@@ -5,27 +5,28 @@ use Rattle.rdmap.specs.Message.{takes_stag}
 use Rattle.domain.specs.Domain.{stream_at}
 use Rattle.arrival.specs.declared.Answer.{Answer}
 use Rattle.domain.specs.declared.Domain.{Domain}
-use Rattle.arrival.specs.declared.Event.TheVariants.{NoEvent}
 use Rattle.rnic.specs.Rnic.{domain_at, with_domain, bytes_of, rnic_received, rnic_received_store}
 use Rattle.rnic.specs.declared.Rnic.{Rnic}
 use Rattle.delivery.specs.Delivery.{payloads, answers_of, events_of, invalidates, sent_domain, written_domain}
 use Rattle.delivery.specs.Promise.{SendRoom, WriteRoom, Placed, buffer_of, window_of, event_of}
+use Rattle.std.specs.Prelude.{None, Result}
+use Rattle.wire.specs.declared.refusal.LocalRefusal.{LocalRefusal}
 
 -- the answers in their order, and the device and the store after the last
 pub record DeviceOutcome : Type 0 where
-  pub answers : List Answer
+  pub answers : List (Result Answer LocalRefusal)
   pub rnic : Rnic
   pub store : List ℕ
 
-abbrev pub answering_on : Answer → DeviceOutcome → DeviceOutcome
+abbrev pub answering_on : Result Answer LocalRefusal → DeviceOutcome → DeviceOutcome
 answering_on a r = record { answers = a ∷ r.answers; rnic = r.rnic; store = r.store }
 
 -- the device's receive is called on stream n with each of the inputs, and is lent the store that the call before left
 unfoldable pub rnic_received_all : Rnic → ℕ → List ℕ → List (List ℕ) → DeviceOutcome
 rnic_received_all b n mem [] = record { answers = []; rnic = b; store = mem }
 rnic_received_all b n mem (f ∷ fs) =
-    answering_on (rnic_received b (length mem) n f).answer
-    (rnic_received_all (rnic_received b (length mem) n f).rnic n (rnic_received_store b n f mem) fs)
+    answering_on (rnic_received b (length mem) n f).0
+    (rnic_received_all (rnic_received b (length mem) n f).1 n (rnic_received_store b n f mem) fs)
 
 -- "Domain d owns 4d to 4d+3": the domain of a stream
 abbrev pub owner_of : Rnic → ℕ → Domain
@@ -64,7 +65,7 @@ pub record DeviceSendDelivered (b : Rnic) (n : ℕ) (mem : List ℕ) (inputs fpd
 
 pub record DeviceWriteDelivered (b : Rnic) (n : ℕ) (mem : List ℕ) (inputs fpdus : List (List ℕ)) (stag to : ℕ) (message : List ℕ) (r : DeviceOutcome) : Type 0 where
   -- every FPDU is taken, with its total, and there is no event
-  pub answers : r.answers ≡ answers_of NoEvent fpdus
+  pub answers : r.answers ≡ answers_of None fpdus
   pub event : events_of r.answers ≡ []
   pub joined : payloads (stream_at (owner_of b n) (n % 4)).framing.crc inputs ≡ message
   -- it stands at its place in the window, and no other byte of the store is changed

@@ -5,18 +5,16 @@ use Rattle.memory.specs.Window.{window_at, slot_named, found_in}
 use Rattle.memory.specs.declared.buffer.Buffer.{Buffer}
 use Rattle.memory.specs.declared.part.Part.{Part}
 use Rattle.memory.specs.declared.window.Window.{Window}
-use Rattle.memory.specs.declared.window.Found.TheVariants.{Slot}
 use Rattle.ddp.specs.Untagged.{next_msn}
 use Rattle.rdmap.specs.Message.{may_write, takes_stag}
 use Rattle.rdmap.specs.Phase.{readiness}
 use Rattle.rdmap.specs.Sends.{current_buffer}
-use Rattle.rdmap.specs.declared.phase.Readiness.TheVariants.{Ready}
 use Rattle.domain.specs.Domain.{stream_at}
 use Rattle.arrival.specs.Parts.{sent_event}
 use Rattle.domain.specs.declared.Domain.{Domain}
 use Rattle.arrival.specs.declared.Event.{Event}
-use Rattle.arrival.specs.declared.Event.TheVariants.{NoEvent}
 use Rattle.delivery.specs.Delivery.{Outcome, payloads, answers_of, events_of, invalidates, sent_domain, written_domain}
+use Rattle.std.specs.Prelude.{None, Ok, Option}
 
 -- ---- what is needed
 
@@ -29,7 +27,7 @@ pub record Within (p : Part) (place len : ℕ) : Type 0 where
 pub record Open (d : Domain) (slot : ℕ) (bytes : List ℕ) : Type 0 where
   pub four : length d.streams ≡ 4
   pub inside : slot < 4
-  pub ready : readiness (stream_at d slot).phase ≡ Ready
+  pub ready : readiness (stream_at d slot).phase ≡ (Ok tt)
   pub whole : length bytes ≡ d.part.end - d.part.start
 
 -- the buffer that a stream of a domain fills next
@@ -46,11 +44,11 @@ pub record SendRoom (d : Domain) (number slot : ℕ) (bytes : List ℕ) (opcode 
   pub waits : 0 < (stream_at d slot).sends.buffers.count
   pub enough : len ≤ (buffer_of d slot).len
   pub lies : Within d.part (buffer_of d slot).start (buffer_of d slot).len
-  pub live : takes_stag opcode ≡ true → found_in (window_at d.windows (slot_named stag)) number stag ≡ Slot (slot_named stag)
+  pub live : takes_stag opcode ≡ true → found_in (window_at d.windows (slot_named stag)) number stag ≡ Ok (slot_named stag)
 
 -- the STag names a live window of the domain, with the write right, and the len bytes from TO lie in it
 pub record Covers (w : Window) (number stag to len : ℕ) : Type 0 where
-  pub found : found_in w number stag ≡ Slot (slot_named stag)
+  pub found : found_in w number stag ≡ Ok (slot_named stag)
   pub may : may_write w ≡ true
   pub above : w.base ≤ to
   pub below : to + len ≤ w.base + w.len
@@ -76,7 +74,7 @@ pub record Placed (bytes after : List ℕ) (place : ℕ) (message : List ℕ) : 
   pub behind : (i : ℕ) → place + length message ≤ i → get_or after i 0 ≡ get_or bytes i 0
 
 -- "buffer start, message length, opcode, and for 4 and 6 the STag"
-abbrev pub event_of : Domain → ℕ → ℕ → ℕ → List ℕ → Event
+abbrev pub event_of : Domain → ℕ → ℕ → ℕ → List ℕ → Option Event
 event_of d slot opcode stag message = sent_event (buffer_of d slot).start (length message) opcode (invalidates opcode stag)
 
 pub record SendDelivered (d : Domain) (slot : ℕ) (bytes : List ℕ) (inputs fpdus : List (List ℕ)) (opcode stag : ℕ) (message : List ℕ) (r : Outcome) : Type 0 where
@@ -96,7 +94,7 @@ pub record SendDelivered (d : Domain) (slot : ℕ) (bytes : List ℕ) (inputs fp
 
 pub record WriteDelivered (d : Domain) (slot : ℕ) (bytes : List ℕ) (inputs fpdus : List (List ℕ)) (stag to : ℕ) (message : List ℕ) (r : Outcome) : Type 0 where
   -- every FPDU is taken, with its total, and there is no event
-  pub answers : r.answers ≡ answers_of NoEvent fpdus
+  pub answers : r.answers ≡ answers_of None fpdus
   pub event : events_of r.answers ≡ []
   pub joined : payloads (stream_at d slot).framing.crc inputs ≡ message
   -- it stands at its place in the window, and no other byte is changed

@@ -19,13 +19,8 @@ use Rattle.rdmap.specs.Terminates.{risen_terminates}
 use Rattle.memory.specs.declared.window.Window.{Window}
 use Rattle.ddp.specs.Tagged.{tagged_of}
 use Rattle.ddp.specs.declared.header.TaggedHeader.{TaggedHeader}
-use Rattle.ddp.specs.declared.tagged.Tagged.{Tagged}
-use Rattle.ddp.specs.declared.tagged.Tagged.TheVariants.{Nowhere, At as TaggedAt, Refused as TaggedRefused}
-use Rattle.rdmap.specs.declared.message.Control.{Control}
-use Rattle.rdmap.specs.declared.message.Control.TheVariants.{Valid, Refused as ControlRefused}
-use Rattle.rdmap.specs.declared.message.Invalidate.{Invalidate}
 use Rattle.rdmap.specs.declared.message.Verdict.{Verdict}
-use Rattle.rdmap.specs.declared.message.Verdict.TheVariants.{Refused as VerdictRefused, Nothing, Write, SendMore, SendLast, Read, Terminate}
+use Rattle.rdmap.specs.declared.message.Verdict.TheVariants.{Nothing, Write, SendMore, SendLast, Read, Terminate}
 use Rattle.rdmap.specs.declared.read.ReadRequest.{ReadRequest}
 use Rattle.rdmap.specs.declared.read.Reads.{Reads}
 use Rattle.rdmap.specs.declared.sends.Sends.{Sends}
@@ -38,7 +33,7 @@ use Rattle.arrival.specs.declared.Answer.{Answer}
 use Rattle.arrival.specs.declared.Answer.TheVariants.{Taken, Ended}
 use Rattle.domain.specs.declared.Domain.{Domain}
 use Rattle.arrival.specs.declared.parts.PartsReceived.{PartsReceived}
-use Rattle.arrival.specs.declared.Event.TheVariants.{NoEvent, Terminated}
+use Rattle.arrival.specs.declared.Event.TheVariants.{Terminated}
 use Rattle.rnic.specs.Rnic.{no_domain, domain_at, with_domain}
 use Rattle.rnic.specs.declared.Rnic.{Rnic}
 use Rattle.block.specs.Stream.{loaded_sends, loaded_reads, loaded_terminates}
@@ -47,6 +42,8 @@ use Rattle.block.specs.Exchange.{stream_of, with_stream_of, with_terminates}
 use Rattle.block.proofs.Stored.{domain_at_lem}
 use Rattle.device.specs.Lifted.{lifted_of, counted_of, OfTagged}
 use Rattle.slots.proofs.Slots.{stream-kept, sends_of, reads_of, terminates_of}
+use Rattle.std.specs.Prelude.{Err, None, Ok, Option, Result, Some, ⊤}
+use Rattle.wire.specs.declared.refusal.LocalRefusal.{LocalRefusal}
 
 -- ---- two changes, one after the other
 
@@ -87,46 +84,46 @@ module _ (w : List ℕ) (d j : ℕ) (hd : d < 4) (hj : j < 4) (total from : ℕ)
   s = stream_of b d j
 
   -- a is the answer to a verdict, a block v holds the device after it, and after are the domain's bytes
-  abbrev pub AppliedAs : Verdict → Answer → List ℕ → List ℕ → Type 0
+  abbrev pub AppliedAs : Result Verdict Refusal → Result Answer LocalRefusal → List ℕ → List ℕ → Type 0
   AppliedAs verdict a v after =
       (a ≡ (parts_applied s total verdict).answer)
       × (rnic_at v ≡ lifted_of b d j (parts_applied s total verdict))
       × (after ≡ applied_bytes from verdict payload mem)
 
   -- of a verdict that is another's name
-  pub told : {x y : Verdict} {a : Answer} {after : List ℕ} (v : List ℕ) → y ≡ x → AppliedAs x a v after → AppliedAs y a v after
-  told {a = a} {after = after} v e h = subst (λ (z : Verdict). AppliedAs z a v after) (sym e) h
+  pub told : {x y : Result Verdict Refusal} {a : Result Answer LocalRefusal} {after : List ℕ} (v : List ℕ) → y ≡ x → AppliedAs x a v after → AppliedAs y a v after
+  told {a = a} {after = after} v e h = subst (λ (z : Result Verdict Refusal). AppliedAs z a v after) (sym e) h
 
-  pub refused : (r : Refusal) (v : List ℕ) → rnic_at v ≡ with_stream_of b d j (ended_by s r) → AppliedAs (VerdictRefused r) (Ended r) v mem
+  pub refused : (r : Refusal) (v : List ℕ) → rnic_at v ≡ with_stream_of b d j (ended_by s r) → AppliedAs (Err r) (Ok (Ended r)) v mem
   unfolding parts_applied applied_bytes
   refused r v is = (refl, is, refl)
 
-  pub nothing : AppliedAs Nothing (Taken total NoEvent) w mem
+  pub nothing : AppliedAs (Ok Nothing) (Ok (Taken total None)) w mem
   unfolding parts_applied applied_bytes
   nothing = (refl, sym (stream-kept b d j), refl)
 
-  pub written : (at : ℕ) → AppliedAs (Write at) (Taken total NoEvent) w (placed_from from at payload mem)
+  pub written : (at : ℕ) → AppliedAs (Ok (Write at)) (Ok (Taken total None)) w (placed_from from at payload mem)
   unfolding parts_applied applied_bytes
   written at = (refl, sym (stream-kept b d j), refl)
 
-  pub sent_more : (at opcode taken : ℕ) (v : List ℕ) → rnic_at v ≡ with_stream_of b d j (with_sends s (sending_sends (loaded_sends w d j) opcode taken)) → AppliedAs (SendMore at opcode taken) (Taken total NoEvent) v (placed_from from at payload mem)
+  pub sent_more : (at opcode taken : ℕ) (v : List ℕ) → rnic_at v ≡ with_stream_of b d j (with_sends s (sending_sends (loaded_sends w d j) opcode taken)) → AppliedAs (Ok (SendMore at opcode taken)) (Ok (Taken total None)) v (placed_from from at payload mem)
   unfolding parts_applied applied_bytes
   sent_more at opcode taken v is =
       (refl, is ∙ ap (λ (q : Sends). with_stream_of b d j (with_sends s (sending_sends q opcode taken))) (sym (sends_of w d j hd hj)), refl)
 
-  pub sent-last : (at opcode start len : ℕ) (inv : Invalidate) (u v : List ℕ) → rnic_at u ≡ with_stream_of b d j (with_sends s (sent_sends (loaded_sends w d j))) → rnic_at v ≡ with_domain (rnic_at u) d (with_windows (domain_at (rnic_at u) d) (killed inv (domain_at (rnic_at u) d).windows)) → AppliedAs (SendLast at opcode start len inv) (Taken total (sent_event start len opcode inv)) v (placed_from from at payload mem)
+  pub sent-last : (at opcode start len : ℕ) (inv : Option (ℕ × ℕ)) (u v : List ℕ) → rnic_at u ≡ with_stream_of b d j (with_sends s (sent_sends (loaded_sends w d j))) → rnic_at v ≡ with_domain (rnic_at u) d (with_windows (domain_at (rnic_at u) d) (killed inv (domain_at (rnic_at u) d).windows)) → AppliedAs (Ok (SendLast at opcode start len inv)) (Ok (Taken total (sent_event start len opcode inv))) v (placed_from from at payload mem)
   unfolding parts_applied applied_bytes
   sent-last at opcode start len inv u v is then =
       let own = domain_at b d in
       let first = is ∙ ap (λ (q : Sends). with_stream_of b d j (with_sends s (sent_sends q))) (sym (sends_of w d j hd hj)) in
       (refl, then ∙ entry_again w u d hd (with_stream own j (with_sends s (sent_sends s.sends))) first (λ e. with_windows e (killed inv e.windows)), refl)
 
-  pub read_queued : (r : ReadRequest) (v : List ℕ) → rnic_at v ≡ with_stream_of b d j (with_reads s (queued_reads (loaded_reads w d j) r)) → AppliedAs (Read r) (Taken total NoEvent) v mem
+  pub read_queued : (r : ReadRequest) (v : List ℕ) → rnic_at v ≡ with_stream_of b d j (with_reads s (queued_reads (loaded_reads w d j) r)) → AppliedAs (Ok (Read r)) (Ok (Taken total None)) v mem
   unfolding parts_applied applied_bytes
   read_queued r v is =
       (refl, is ∙ ap (λ (q : Reads). with_stream_of b d j (with_reads s (queued_reads q r))) (sym (reads_of w d j hd hj)), refl)
 
-  pub terminated : (layer etype code : ℕ) (u v : List ℕ) → rnic_at u ≡ with_stream_of b d j (in_phase s (phase_of 3)) → rnic_at v ≡ with_stream_of (rnic_at u) d j (with_terminates (stream_of (rnic_at u) d j) (risen_terminates (loaded_terminates w d j))) → AppliedAs (Terminate layer etype code) (Taken total (Terminated layer etype code)) v mem
+  pub terminated : (layer etype code : ℕ) (u v : List ℕ) → rnic_at u ≡ with_stream_of b d j (in_phase s (phase_of 3)) → rnic_at v ≡ with_stream_of (rnic_at u) d j (with_terminates (stream_of (rnic_at u) d j) (risen_terminates (loaded_terminates w d j))) → AppliedAs (Ok (Terminate layer etype code)) (Ok (Taken total (Some (Terminated layer etype code)))) v mem
   unfolding parts_applied applied_bytes
   terminated layer etype code u v is then = (
     refl,
@@ -139,33 +136,42 @@ module _ (w : List ℕ) (d j : ℕ) (hd : d < 4) (hj : j < 4) (total from : ℕ)
 -- ---- what a taken segment placed is counted
 
 pub counted-then :
-    (w v u : List ℕ) (d j : ℕ) → d < 4 → (r : PartsReceived) (x : SegmentRead) → rnic_at v ≡ lifted_of (rnic_at w) d j r →
-    (a : Answer) → a ≡ r.answer → (placed : ℕ) → placed ≡ segment_count x →
+    (w v u : List ℕ) (d j : ℕ) → d < 4 → (r : PartsReceived) (x : Result SegmentRead Refusal) → rnic_at v ≡ lifted_of (rnic_at w) d j r →
+    (a : Result Answer LocalRefusal) → a ≡ r.answer → (placed : ℕ) → placed ≡ segment_count x →
     rnic_at u ≡ with_domain (rnic_at v) d (with_meter (domain_at (rnic_at v) d) (meter_by a placed (domain_at (rnic_at v) d).meter)) →
     rnic_at u ≡ counted_of (rnic_at w) d j x r
 counted-then w v u d j hd r x is a e placed n then =
     then
-    ∙ entry_again w v d hd (lifted (domain_at (rnic_at w) d) j r).domain is (λ y. with_meter y (meter_by a placed y.meter))
-    ∙ (λ i. with_domain (rnic_at w) d (with_meter (lifted (domain_at (rnic_at w) d) j r).domain (meter_by (e i) (n i) (domain_at (rnic_at w) d).meter)))
+    ∙ entry_again w v d hd (lifted (domain_at (rnic_at w) d) j r).1 is (λ y. with_meter y (meter_by a placed y.meter))
+    ∙ (λ i. with_domain (rnic_at w) d (with_meter (lifted (domain_at (rnic_at w) d) j r).1 (meter_by (e i) (n i) (domain_at (rnic_at w) d).meter)))
 
 -- and where the stream ended nothing is
-pub ended_uncounted : (b : Rnic) (d j : ℕ) (r : PartsReceived) (x : SegmentRead) (q : Refusal) → Ended q ≡ r.answer → lifted_of b d j r ≡ counted_of b d j x r
-ended_uncounted b d j r x q e i = with_domain b d (with_meter (lifted (domain_at b d) j r).domain (meter_by (e i) (segment_count x) (domain_at b d).meter))
+pub ended_uncounted : (b : Rnic) (d j : ℕ) (r : PartsReceived) (x : Result SegmentRead Refusal) (q : Refusal) → Ok (Ended q) ≡ r.answer → lifted_of b d j r ≡ counted_of b d j x r
+ended_uncounted b d j r x q e i = with_domain b d (with_meter (lifted (domain_at b d) j r).1 (meter_by (e i) (segment_count x) (domain_at b d).meter))
 
 -- ---- a tagged segment is refused, empty or written
 
 pub of_tagged : (w : Window) (number : ℕ) (h : TaggedHeader) (len : ℕ) → OfTagged (tagged_verdict w number h len)
 of_tagged w number h len = go (tagged_of w number h.stag h.to len)
   where
-    written_or_not : (t : Bool) (place : ℕ) → OfTagged (pick t (Write place) (VerdictRefused no_write_right))
+    written_or_not : (t : Bool) (place : ℕ) → OfTagged (pick t (Ok (Write place)) (Err no_write_right))
     written_or_not true place = tt
     written_or_not false place = tt
 
-    unless : (c : Control) (v : Verdict) → OfTagged v → OfTagged (after c v)
-    unless Valid v k = k
-    unless (ControlRefused r) v k = tt
+    unless : (c : Result ⊤ Refusal) (v : Result Verdict Refusal) → OfTagged v → OfTagged (after c v)
+    unless (Ok tt) v k = k
+    unless (Err r) v k = tt
 
-    go : (t : Tagged) → OfTagged (write_verdict w h.control t)
-    go (TaggedRefused r) = tt
-    go Nowhere = unless (controlled h.control (eqb (opcode_of h.control) 0)) Nothing tt
-    go (TaggedAt place) = unless (controlled h.control (eqb (opcode_of h.control) 0)) _ (written_or_not (may_write w) place)
+    go : (t : Result (Option ℕ) Refusal) → OfTagged (write_verdict w h.control t)
+    go (Err r) = tt
+    go (Ok None) = unless (controlled h.control (eqb (opcode_of h.control) 0)) (Ok Nothing) tt
+    go (Ok (Some place)) = unless (controlled h.control (eqb (opcode_of h.control) 0)) _ (written_or_not (may_write w) place)
+
+-- and of no other verdict
+pub no_other : (v : Verdict) → OfTagged (Ok v) → (v ≡ Nothing → ⊥) → ((at : ℕ) → v ≡ Write at → ⊥) → ⊥
+no_other Nothing k n w = n refl
+no_other (Write at) k n w = w at refl
+no_other (SendMore at opcode taken) k n w = k
+no_other (SendLast at opcode start len inv) k n w = k
+no_other (Read r) k n w = k
+no_other (Terminate layer etype code) k n w = k

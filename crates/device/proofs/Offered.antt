@@ -17,20 +17,18 @@ use Rattle.rdmap.specs.Framing.{framing_holding}
 use Rattle.rdmap.specs.Phase.{readiness}
 use Rattle.rdmap.specs.Stream.{with_framing, holding, no_stream}
 use Rattle.rdmap.specs.declared.framing.Framing.{Framing}
-use Rattle.rdmap.specs.declared.phase.Readiness.{Readiness}
-use Rattle.rdmap.specs.declared.phase.Readiness.TheVariants.{Ready, NotReady}
 use Rattle.rdmap.specs.declared.stream.Stream.{Stream}
 use Rattle.ddp.specs.declared.segment.SegmentRead.{SegmentRead}
 use Rattle.domain.specs.Domain.{stream_at, with_stream, segment_count, meter_by, metered, metered_of, domain_received, domain_received_bytes, lifted}
 use Rattle.arrival.specs.Parts.{parts_answered, parts_judged, parts_placed, parts_unchanged, parts_when, parts_bytes_when, parts_received, parts_received_bytes, killed}
 use Rattle.arrival.specs.declared.Answer.{Answer}
-use Rattle.arrival.specs.declared.Answer.TheVariants.{Wait, Taken, Ended, Refused}
+use Rattle.arrival.specs.declared.Answer.TheVariants.{Wait, Taken, Ended}
 use Rattle.domain.specs.declared.Domain.{Domain}
 use Rattle.arrival.specs.declared.parts.PartsReceived.{PartsReceived}
 use Rattle.holding.specs.Pending.{room_bytes, needed_of, is_short, gathered, held_now, room_after}
 use Rattle.holding.specs.Offer.{holds, domain_receives, domain_receives_bytes, offer_answer, parts_held, parts_held_of, parts_offered, parts_offered_bytes}
 use Rattle.holding.specs.declared.OfferAnswer.{OfferAnswer}
-use Rattle.holding.specs.declared.OfferAnswer.TheVariants.{Kept, Refused as OfferRefused}
+use Rattle.holding.specs.declared.OfferAnswer.TheVariants.{Kept}
 use Rattle.holding.specs.declared.gather.Gathered.{Gathered}
 use Rattle.holding.specs.declared.gather.Gathered.TheVariants.{Short, Enough}
 use Rattle.holding.proofs.Gathered.{room-enough}
@@ -48,6 +46,10 @@ use Rattle.calls.specs.Words.{words, refused_words, answer_words, took_words, of
 use Rattle.calls.proofs.Offered.{offered-words, wait_of, kind_waits}
 use Rattle.device.proofs.Received.{FirstWords, ReceivedAs}
 use Rattle.slots.proofs.Slots.{stream-kept, phase_of_lem, framing_of}
+use Rattle.std.specs.Prelude.{Err, Ok, Result, ⊤}
+use Rattle.ddp.specs.declared.refusal.Refusal.{Refusal}
+use Rattle.wire.specs.declared.refusal.LocalRefusal.{LocalRefusal}
+use Rattle.wire.specs.declared.refusal.LocalRefusal.TheVariants.{HoldsBytes, OutOfRange}
 
 -- ---- receive of a domain, by the parts that it needs
 
@@ -60,15 +62,15 @@ pub receives_lifted : (d : Domain) (number slot : ℕ) (input : List ℕ) → sl
 unfolding parts_receives parts_receives_bytes domain_receives domain_receives_bytes domain_received domain_received_bytes
 receives_lifted d number slot input l = go (holds (stream_at d slot)) (leb slot 3) (le-leb slot 3 (omega (arith, l)))
   where
-    x : SegmentRead
+    x : Result SegmentRead Refusal
     x = segment_read (stream_at d slot).framing.crc input
 
     go :
         (t u : Bool) → u ≡ true →
-        (metered_of x (lifted d slot (pick t (parts_unchanged (stream_at d slot) (Refused 16)) (parts_received d.windows number (stream_at d slot) input)))
-        ≡ pick (both u t) (record { answer = Refused 16; domain = d }) (pick u (metered_of x (lifted d slot (parts_received d.windows number (stream_at d slot) input))) (record { answer = Refused 1; domain = d })))
+        (metered_of x (lifted d slot (pick t (parts_unchanged (stream_at d slot) (Err HoldsBytes)) (parts_received d.windows number (stream_at d slot) input)))
+        ≡ pick (both u t) (Err HoldsBytes, d) (pick u (metered_of x (lifted d slot (parts_received d.windows number (stream_at d slot) input))) (Err OutOfRange, d)))
         × ((mem : List ℕ) → pick t mem (parts_received_bytes d.part d.windows number (stream_at d slot) input mem) ≡ pick (both u t) mem (pick u (parts_received_bytes d.part d.windows number (stream_at d slot) input mem) mem))
-    go true true e = ((λ i. record { answer = Refused 16; domain = record { part = d.part; windows = d.windows; streams = set-get_or d.streams slot no_stream i; meter = d.meter } }), λ mem. refl)
+    go true true e = ((λ i. (Err HoldsBytes, record { part = d.part; windows = d.windows; streams = set-get_or d.streams slot no_stream i; meter = d.meter })), λ mem. refl)
     go false true e = (refl, λ mem. refl)
     go t false e = absurd (let no : ◌≡◌ {A = ℕ} 0 1 = cc in omega arith)
 
@@ -95,15 +97,15 @@ module _ (w : List ℕ) (d j : ℕ) (hd : d < 4) (hj : j < 4) (p : Part) (input 
   unfolding parts_receives parts_receives_bytes
   receives_none v e r = (simp e r.0, simp e r.1, simp e r.2)
 
-  pub receives_held : holds s ≡ true → ReceivesAs (refused_words 16) w mem
+  pub receives_held : holds s ≡ true → ReceivesAs (refused_words HoldsBytes) w mem
   unfolding parts_receives parts_receives_bytes
   receives_held e = (simp e, simp e (sym (stream-kept b d j)), simp e)
 
   -- it holds none where it is not open, or where its record says so
-  pub shut_none : (k : ℕ) → readiness (loaded_phase w d j) ≡ NotReady k → holds s ≡ false
+  pub shut_none : (k : LocalRefusal) → readiness (loaded_phase w d j) ≡ Err k → holds s ≡ false
   shut_none k e = ap (λ (t : Bool). both t (ltb 0 s.framing.held)) (shut_phase s k (ap readiness (phase_of_lem w d j hd hj) ∙ e))
 
-  pub ready-holds : readiness (loaded_phase w d j) ≡ Ready → (f : Framing) → f ≡ loaded_framing w d j → holds s ≡ ltb 0 f.held
+  pub ready-holds : readiness (loaded_phase w d j) ≡ (Ok tt) → (f : Framing) → f ≡ loaded_framing w d j → holds s ≡ ltb 0 f.held
   ready-holds e f g =
       ap₂ both (ready_phase s (ap readiness (phase_of_lem w d j hd hj) ∙ e)) (ap (λ (x : Framing). ltb 0 x.held) (framing_of w d j hd hj ∙ sym g))
 
@@ -113,7 +115,7 @@ module _ (w : List ℕ) (d j : ℕ) (hd : d < 4) (hj : j < 4) (p : Part) (input 
     h = held_in b d j room
 
     -- what is answered, the block after it, the domain's bytes and the room
-    abbrev pub OfferedAs : OfferAnswer → List ℕ → List ℕ → List ℕ → Type 0
+    abbrev pub OfferedAs : Result OfferAnswer LocalRefusal → List ℕ → List ℕ → List ℕ → Type 0
     OfferedAs a v after r =
         (a ≡ offer_answer_of b d j room input)
         × (rnic_at v ≡ offered_rnic_of b d j room input)
@@ -128,12 +130,12 @@ module _ (w : List ℕ) (d j : ℕ) (hd : d < 4) (hj : j < 4) (p : Part) (input 
         × (after ≡ offered_bytes_of b d j p room input mem)
         × (r ≡ offered_room_of b d j room input)
 
-    as_words : {a : OfferAnswer} {l after r : List ℕ} (v : List ℕ) → l ≡ offer_words a → OfferedAs a v after r → OfferedWords l v after r
+    as_words : {a : Result OfferAnswer LocalRefusal} {l after r : List ℕ} (v : List ℕ) → l ≡ offer_words a → OfferedAs a v after r → OfferedWords l v after r
     as_words v e t = (e ∙ ap offer_words t.0, t.1, t.2, t.3)
 
     -- what the offer makes of the stream is x, the domain's bytes y, and the room z
     as_told :
-        {a : OfferAnswer} {after r : List ℕ} (v : List ℕ) (x : PartsReceived) → offered_of b d j room input ≡ x → a ≡ offer_answer (length h) (length input) x.answer → rnic_at v ≡ counted_of b d j (segment_read s.framing.crc (h ++ input)) x →
+        {a : Result OfferAnswer LocalRefusal} {after r : List ℕ} (v : List ℕ) (x : PartsReceived) → offered_of b d j room input ≡ x → a ≡ offer_answer (length h) (length input) x.answer → rnic_at v ≡ counted_of b d j (segment_read s.framing.crc (h ++ input)) x →
         (y : List ℕ) → offered_bytes_of b d j p room input mem ≡ y → after ≡ y →
         (z : List ℕ) → offered_room_of b d j room input ≡ z → r ≡ z → OfferedAs a v after r
     as_told v x e f g y e' f' z e'' f'' = (
@@ -143,20 +145,20 @@ module _ (w : List ℕ) (d j : ℕ) (hd : d < 4) (hj : j < 4) (p : Part) (input 
       f'' ∙ sym e'',
     )
 
-    pub offer-shut : (k : ℕ) → readiness (loaded_phase w d j) ≡ NotReady k → OfferedWords (refused_words k) w mem room
+    pub offer-shut : (k : LocalRefusal) → readiness (loaded_phase w d j) ≡ Err k → OfferedWords (refused_words k) w mem room
     unfolding parts_offered parts_offered_bytes parts_received parts_received_bytes
     offer-shut k e =
-        let shut : readiness s.phase ≡ NotReady k = ap readiness (phase_of_lem w d j hd hj) ∙ e in
+        let shut : readiness s.phase ≡ Err k = ap readiness (phase_of_lem w d j hd hj) ∙ e in
         as_words w refl
-        (as_told {a = OfferRefused k} w (parts_unchanged s (Refused k))
-        (ap (λ (r : Readiness). parts_held_of s (length h + length input) (parts_when ws d (holding s 0) (h ++ input) r)) shut)
+        (as_told {a = Err k} w (parts_unchanged s (Err k))
+        (ap (λ (r : Result ⊤ LocalRefusal). parts_held_of s (length h + length input) (parts_when ws d (holding s 0) (h ++ input) r)) shut)
         refl (sym (stream-kept b d j)) mem
         (ap (parts_bytes_when p ws d (holding s 0) (h ++ input) mem) shut)
         refl room
         (ap (λ (t : Bool). pick t (room_after h input room) room) (shut_phase s k shut))
         refl)
 
-    module _ (ready : readiness s.phase ≡ Ready) where
+    module _ (ready : readiness s.phase ≡ (Ok tt)) where
       -- what an open stream that holds nothing makes of bytes
       abbrev core : Stream → List ℕ → PartsReceived
       core t q = parts_answered t (parts_judged ws d t q (segment_read s.framing.crc q))
@@ -166,7 +168,7 @@ module _ (w : List ℕ) (d j : ℕ) (hd : d < 4) (hj : j < 4) (p : Part) (input 
 
       offered-is : offered_of b d j room input ≡ parts_held_of s (length h + length input) (core (holding s 0) (h ++ input))
       unfolding parts_offered parts_received
-      offered-is = ap (λ (r : Readiness). parts_held_of s (length h + length input) (parts_when ws d (holding s 0) (h ++ input) r)) ready
+      offered-is = ap (λ (r : Result ⊤ LocalRefusal). parts_held_of s (length h + length input) (parts_when ws d (holding s 0) (h ++ input) r)) ready
 
       bytes-is : offered_bytes_of b d j p room input mem ≡ core_bytes (holding s 0) (h ++ input)
       unfolding parts_offered_bytes parts_received_bytes
@@ -176,26 +178,26 @@ module _ (w : List ℕ) (d j : ℕ) (hd : d < 4) (hj : j < 4) (p : Part) (input 
       room-is = ap (λ (t : Bool). pick t (room_after h input room) room) (ready_phase s ready)
 
       -- too few pending bytes: they are all held
-      held_short : (x : PartsReceived) → is_short (h ++ input) ≡ true → x ≡ core (holding s 0) (h ++ input) → parts_held_of s (length h + length input) x ≡ parts_unchanged (holding s (length h + length input)) (Wait (needed_of (h ++ input)))
+      held_short : (x : PartsReceived) → is_short (h ++ input) ≡ true → x ≡ core (holding s 0) (h ++ input) → parts_held_of s (length h + length input) x ≡ parts_unchanged (holding s (length h + length input)) (Ok (Wait (needed_of (h ++ input))))
       held_short x e q =
           ap (parts_held_of s (length h + length input)) (q ∙ (short_waits p ws d (holding s 0) s.framing.crc mem (h ++ input) e).0)
 
       pub kept_short :
           is_short (h ++ input) ≡ true → (v after r : List ℕ) → rnic_at v ≡ with_stream_of b d j (holding s (length (h ++ input))) → after ≡ mem → r ≡ room_after h input room →
-          OfferedAs (Kept (length input)) v after r
+          OfferedAs (Ok (Kept (length input))) v after r
       kept_short e v after r is same put =
-          as_told v (parts_unchanged (holding s (length h + length input)) (Wait (needed_of (h ++ input))))
+          as_told v (parts_unchanged (holding s (length h + length input)) (Ok (Wait (needed_of (h ++ input)))))
           (offered-is ∙ held_short (core (holding s 0) (h ++ input)) e refl)
           refl (is ∙ ap (λ (n : ℕ). with_stream_of b d j (holding s n)) (length-append h input))
           mem (bytes-is ∙ (short_waits p ws d (holding s 0) s.framing.crc mem (h ++ input) e).1) same
           (room_after h input room) room-is put
 
       -- enough: what is taken or ends the stream leaves nothing held
-      decided_held : (n : ℕ) (x : PartsReceived) → (a : Answer) → x.answer ≡ a → Decided a → parts_held s n x a ≡ x
-      decided_held n x (Wait k) e k' = absurd k'
-      decided_held n x (Taken total ev) e k = refl
-      decided_held n x (Ended r) e k = refl
-      decided_held n x (Refused k) e k' = absurd k'
+      decided_held : (n : ℕ) (x : PartsReceived) → (a : Result Answer LocalRefusal) → x.answer ≡ a → Decided a → parts_held s n x a ≡ x
+      decided_held n x (Ok (Wait k)) e k' = absurd k'
+      decided_held n x (Ok (Taken total ev)) e k = refl
+      decided_held n x (Ok (Ended r)) e k = refl
+      decided_held n x (Err k) e k' = absurd k'
 
       enough-offered : is_short (h ++ input) ≡ false → offered_of b d j room input ≡ core (holding s 0) (h ++ input)
       enough-offered e =
@@ -203,7 +205,7 @@ module _ (w : List ℕ) (d j : ℕ) (hd : d < 4) (hj : j < 4) (p : Part) (input 
           offered-is ∙ decided_held (length h + length input) x x.answer refl (enough_judges p ws d (holding s 0) s.framing.crc mem (h ++ input) e)
 
       pub taken-enough :
-          is_short (h ++ input) ≡ false → (a : Answer) (v after r : List ℕ) → a ≡ (core (holding s 0) (h ++ input)).answer → rnic_at v ≡ counted_of b d j (segment_read s.framing.crc (h ++ input)) (core (holding s 0) (h ++ input)) →
+          is_short (h ++ input) ≡ false → (a : Result Answer LocalRefusal) (v after r : List ℕ) → a ≡ (core (holding s 0) (h ++ input)).answer → rnic_at v ≡ counted_of b d j (segment_read s.framing.crc (h ++ input)) (core (holding s 0) (h ++ input)) →
           after ≡ core_bytes (holding s 0) (h ++ input) → r ≡ room_after h input room → OfferedAs (offer_answer (length h) (length input) a) v after r
       taken-enough e a v after r f g k l =
           as_told v (core (holding s 0) (h ++ input)) (enough-offered e) (ap (offer_answer (length h) (length input)) f) g
@@ -225,7 +227,7 @@ module _ (w : List ℕ) (d j : ℕ) (hd : d < 4) (hj : j < 4) (p : Part) (input 
 
         module _ {l after : List ℕ} (v : List ℕ) (first : FirstWords w d j p input mem (segment_read f.crc input) l v after) where
           -- what receive answers
-          abbrev a : Answer
+          abbrev a : Result Answer LocalRefusal
           a = (core s input).answer
 
           told : FirstWords w d j p input mem (segment_read s.framing.crc input) l v after
@@ -254,20 +256,20 @@ module _ (w : List ℕ) (d j : ℕ) (hd : d < 4) (hj : j < 4) (p : Part) (input 
               enough-long e = let l = ltb-false (length (h ++ input)) (needed_of (h ++ input)) e in omega (arith, l, length-append h input)
 
           -- the offer's words, of receive's
-          fresh_words : (x : OfferAnswer) → offer_answer 0 (length input) a ≡ x → offered_words l 0 (length input) ≡ offer_words x
+          fresh_words : (x : Result OfferAnswer LocalRefusal) → offer_answer 0 (length input) a ≡ x → offered_words l 0 (length input) ≡ offer_words x
           fresh_words x e = ap (λ (t : List ℕ). offered_words t 0 (length input)) told.0 ∙ offered-words a 0 (length input) ∙ ap offer_words e
 
           pub fresh_done : (get_or l 0 0 ≡ 5 → ⊥) → OfferedWords (offered_words l 0 (length input)) v after room
           fresh_done other = as_words v (fresh_words (offer_answer 0 (length input) a) refl) (fresh_taken (go a refl))
             where
-              go : (x : Answer) → a ≡ x → Decided a
-              go (Wait n) e = absurd (other (ap (λ (t : List ℕ). get_or t 0 0) (told.0 ∙ ap answer_words e)))
-              go (Taken total ev) e = subst Decided (sym e) tt
-              go (Ended r) e = subst Decided (sym e) tt
-              go (Refused k) e = absurd (never_refused p ws d s s.framing.crc mem input k e)
+              go : (x : Result Answer LocalRefusal) → a ≡ x → Decided a
+              go (Ok (Wait n)) e = absurd (other (ap (λ (t : List ℕ). get_or t 0 0) (told.0 ∙ ap answer_words e)))
+              go (Ok (Taken total ev)) e = subst Decided (sym e) tt
+              go (Ok (Ended r)) e = subst Decided (sym e) tt
+              go (Err k) e = absurd (never_refused p ws d s s.framing.crc mem input k e)
 
           -- the bytes are kept
-          waits-told : get_or l 0 0 ≡ 5 → a ≡ Wait (wait_of a)
+          waits-told : get_or l 0 0 ≡ 5 → a ≡ Ok (Wait (wait_of a))
           waits-told five = kind_waits a (sym (ap (λ (t : List ℕ). get_or t 0 0) told.0) ∙ five)
 
           pub fresh_kept :
@@ -276,13 +278,13 @@ module _ (w : List ℕ) (d j : ℕ) (hd : d < 4) (hj : j < 4) (p : Part) (input 
               OfferedWords (offered_words l 0 (length input)) u after r
           unfolding gathered
           fresh_kept five g u r is then put =
-              let waits : a ≡ Wait (wait_of a) = waits-told five in
+              let waits : a ≡ Ok (Wait (wait_of a)) = waits-told five in
               let short₀ : is_short input ≡ true = waits_short p ws d s s.framing.crc mem input (wait_of a) waits in
               let short : is_short (h ++ input) ≡ true = ap is_short pending ∙ short₀ in
               let still : rnic_at v ≡ b = told.1 ∙ ap (λ (x : PartsReceived). counted_of b d j (segment_read s.framing.crc input) x) (short_waits p ws d s s.framing.crc mem input short₀).0 ∙ stream-kept b d j in
               let front : take f.held room ≡ h = ap (λ (x : Framing). take x.held room) framed in
               let got : g ≡ Short (length (h ++ input)) = is ∙ ap (λ (l : List ℕ). gathered l input) front ∙ ap (λ (t : Bool). pick t (Short (length (h ++ input))) (Enough (needed_of (h ++ input)))) short in
-              as_words u (fresh_words (Kept (length input)) (ap (offer_answer 0 (length input)) waits))
+              as_words u (fresh_words (Ok (Kept (length input))) (ap (offer_answer 0 (length input)) waits))
               (kept_short short u after r
               (then ∙ (λ i. with_stream_of (still i) d j (with_framing (stream_of (still i) d j) (framing_holding (framed i) (held_now (got i))))))
               (told.2 ∙ (short_waits p ws d s s.framing.crc mem input short₀).1)
@@ -354,9 +356,9 @@ module _ (w : List ℕ) (d j : ℕ) (hd : d < 4) (hj : j < 4) (p : Part) (input 
           stream-then : stream_of (rnic_at v) d j ≡ holding s 0
           stream-then = ap (λ (x : Domain). stream_at x j) entry ∙ get_or-set_same own.streams j (holding s 0) no_stream (omega (arith, four_streams w d hd))
 
-          counted-held : (y : SegmentRead) (x : PartsReceived) → counted_of (rnic_at v) d j y x ≡ counted_of b d j y x
+          counted-held : (y : Result SegmentRead Refusal) (x : PartsReceived) → counted_of (rnic_at v) d j y x ≡ counted_of b d j y x
           counted-held y x =
-              entry_again w v d hd (with_stream own j (holding s 0)) emptied (λ z. metered x.answer y (lifted z j x).domain)
+              entry_again w v d hd (with_stream own j (holding s 0)) emptied (λ z. metered x.answer y (lifted z j x).1)
               ∙ (λ i. with_domain b d (record { part = own.part; windows = killed x.invalidate own.windows; streams = set-set own.streams j (holding s 0) x.stream i; meter = meter_by x.answer (segment_count y) own.meter }))
 
           pub held-taken :
@@ -372,7 +374,7 @@ module _ (w : List ℕ) (d j : ℕ) (hd : d < 4) (hj : j < 4) (p : Part) (input 
               (λ i. parts_answered (stream-then i) (parts_judged (entry i).windows d (stream-then i) q (segment_read s.framing.crc q))) ∙ same.0 in
               let placed : parts_placed p (domain_at (rnic_at v) d).windows d (stream_of (rnic_at v) d j) q mem (segment_read s.framing.crc q) ≡ core_bytes (holding s 0) (h ++ input) =
               (λ i. parts_placed p (entry i).windows d (stream-then i) q mem (segment_read s.framing.crc q)) ∙ same.1 in
-              let a : Answer = (core (holding s 0) (h ++ input)).answer in
+              let a : (Result Answer LocalRefusal) = (core (holding s 0) (h ++ input)).answer in
               as_words u
               (ap (λ (t : List ℕ). offered_words t (length h) (length input)) (seen.0 ∙ ap (λ (x : PartsReceived). answer_words x.answer) told) ∙ offered-words a (length h) (length input))
               (taken-enough enough a u after r refl

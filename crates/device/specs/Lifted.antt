@@ -7,39 +7,42 @@ use Rattle.ddp.specs.Segment.{segment_read}
 use Rattle.ddp.specs.declared.segment.SegmentRead.{SegmentRead}
 use Rattle.domain.specs.Domain.{metered, lifted}
 use Rattle.arrival.specs.Parts.{parts_unchanged, parts_received, parts_received_bytes}
-use Rattle.arrival.specs.declared.Answer.TheVariants.{Refused}
 use Rattle.holding.specs.Offer.{holds, offer_answer, parts_offered, parts_offered_bytes, stream_room}
 use Rattle.holding.specs.declared.OfferAnswer.{OfferAnswer}
 use Rattle.arrival.specs.declared.parts.PartsReceived.{PartsReceived}
 use Rattle.memory.specs.declared.window.Window.{Window}
 use Rattle.rdmap.specs.declared.message.Verdict.{Verdict}
-use Rattle.rdmap.specs.declared.message.Verdict.TheVariants.{Refused as VerdictRefused, Nothing, Write, SendMore, SendLast, Read, Terminate}
+use Rattle.rdmap.specs.declared.message.Verdict.TheVariants.{Nothing, Write, SendMore, SendLast, Read, Terminate}
 use Rattle.rnic.specs.Rnic.{domain_at, with_domain}
 use Rattle.rnic.specs.declared.Rnic.{Rnic}
 use Rattle.block.specs.Exchange.{stream_of}
+use Rattle.std.specs.Prelude.{Err, Ok, Result}
+use Rattle.ddp.specs.declared.refusal.Refusal.{Refusal}
+use Rattle.wire.specs.declared.refusal.LocalRefusal.{LocalRefusal}
+use Rattle.wire.specs.declared.refusal.LocalRefusal.TheVariants.{HoldsBytes}
 
 abbrev pub lifted_of : Rnic → ℕ → ℕ → PartsReceived → Rnic
-lifted_of b d j r = with_domain b d (lifted (domain_at b d) j r).domain
+lifted_of b d j r = with_domain b d (lifted (domain_at b d) j r).1
 
 -- the same, with the payload bytes of a taken Write or Send counted
-abbrev pub counted_of : Rnic → ℕ → ℕ → SegmentRead → PartsReceived → Rnic
-counted_of b d j x r = with_domain b d (metered r.answer x (lifted (domain_at b d) j r).domain)
+abbrev pub counted_of : Rnic → ℕ → ℕ → Result SegmentRead Refusal → PartsReceived → Rnic
+counted_of b d j x r = with_domain b d (metered r.answer x (lifted (domain_at b d) j r).1)
 
 -- a verdict that there is on a tagged segment: refused, empty or written
-abbrev pub OfTagged : Verdict → Type 0
-OfTagged (VerdictRefused r) = Unit {0}
-OfTagged Nothing = Unit {0}
-OfTagged (Write at) = Unit {0}
-OfTagged (SendMore at opcode taken) = ⊥
-OfTagged (SendLast at opcode start len inv) = ⊥
-OfTagged (Read r) = ⊥
-OfTagged (Terminate layer etype code) = ⊥
+abbrev pub OfTagged : Result Verdict Refusal → Type 0
+OfTagged (Err r) = Unit {0}
+OfTagged (Ok Nothing) = Unit {0}
+OfTagged (Ok (Write at)) = Unit {0}
+OfTagged (Ok (SendMore at opcode taken)) = ⊥
+OfTagged (Ok (SendLast at opcode start len inv)) = ⊥
+OfTagged (Ok (Read r)) = ⊥
+OfTagged (Ok (Terminate layer etype code)) = ⊥
 
 -- ---- streams that hold bytes
 
 -- receive over the parts of a domain that it needs: 16 while the stream holds bytes
 unfoldable pub parts_receives : List Window → ℕ → Stream → List ℕ → PartsReceived
-parts_receives ws number s input = pick (holds s) (parts_unchanged s (Refused 16)) (parts_received ws number s input)
+parts_receives ws number s input = pick (holds s) (parts_unchanged s (Err HoldsBytes)) (parts_received ws number s input)
 
 -- the device after it
 abbrev pub receives_rnic_of : Rnic → ℕ → ℕ → List ℕ → Rnic
@@ -68,5 +71,5 @@ abbrev pub offered_room_of : Rnic → ℕ → ℕ → List ℕ → List ℕ → 
 offered_room_of b d j room input = stream_room (stream_of b d j) (held_in b d j room) input room
 
 -- what the call answers
-abbrev pub offer_answer_of : Rnic → ℕ → ℕ → List ℕ → List ℕ → OfferAnswer
+abbrev pub offer_answer_of : Rnic → ℕ → ℕ → List ℕ → List ℕ → Result OfferAnswer LocalRefusal
 offer_answer_of b d j room input = offer_answer (length (held_in b d j room)) (length input) (offered_of b d j room input).answer

@@ -1,6 +1,6 @@
 // What a verdict does with a stream and with the domain's bytes: the payload is placed, and the groups that
 // changed are stored.
-ghost use Rattle.std.specs.Prelude.{◌≡◌, ◌<◌};
+ghost use Rattle.std.specs.Prelude.{◌≡◌, ◌<◌, Ok, None};
 ghost use Rattle.rdmap.specs.Stream.{ended_by};
 ghost use Rattle.domain.specs.Domain.{with_windows};
 ghost use Rattle.arrival.specs.Parts.{killed, applied_bytes, parts_applied};
@@ -20,143 +20,133 @@ use block::terminates::{load_terminates, store_terminates};
 use ddp::refusal::Refusal;
 use rdmap::message::{Invalidate, Verdict};
 use rdmap::phase::{ended_by, phase_of};
+use slots::place::{StreamPlace, WindowPlace};
+use wire::refusal::LocalRefusal;
 
 // The window that a Send invalidated is dead.
 fn kill(words: &mut [u64; 945], domain: usize, which: Invalidate)
     requires { domain < 4 }
     ensures { rnic_at words.new ≡ with_domain (rnic_at words.old) domain (with_windows (domain_at (rnic_at words.old) domain) (killed which (domain_at (rnic_at words.old) domain).windows)) }
 {
-    match which {
-        Invalidate::NoStag => {}
-        Invalidate::Stag { slot, stag: _ } => {
-            if slot < 16 {
-                drop_slot(words, domain, slot);
-            }
+    if let Some((slot, _)) = which {
+        if slot < 16 {
+            let _ = drop_slot(words, WindowPlace { domain, slot });
         }
     }
 }
 
 // Ends the stream of a domain's slot by a refusal of the peer's bytes.
-pub(crate) fn end(words: &mut [u64; 945], domain: usize, slot: usize, refusal: Refusal) -> Answer
-    requires { (domain < 4) × (slot < 4) }
-    ensures { (result ≡ Answer.Ended refusal) × (rnic_at words.new ≡ with_stream_of (rnic_at words.old) domain slot (ended_by (stream_of (rnic_at words.old) domain slot) refusal)) }
+pub(crate) fn end(
+    words: &mut [u64; 945],
+    at: StreamPlace,
+    refusal: Refusal,
+) -> Result<Answer, LocalRefusal>
+    ensures { (result ≡ Ok (Answer.Ended refusal)) × (rnic_at words.new ≡ with_stream_of (rnic_at words.old) at.domain at.slot (ended_by (stream_of (rnic_at words.old) at.domain at.slot) refusal)) }
 {
-    store_phase(words, domain, slot, ended_by(refusal));
-    Answer::Ended(refusal)
+    store_phase(words, at.domain, at.slot, ended_by(refusal));
+    Ok(Answer::Ended(refusal))
 }
 
 // An FPDU is taken with no event.
-fn taken(total: usize) -> Answer
-    ensures { result ≡ Answer.Taken total Event.NoEvent }
+fn taken(total: usize) -> Result<Answer, LocalRefusal>
+    ensures { result ≡ Ok (Answer.Taken total None) }
 {
-    Answer::Taken {
-        total,
-        event: Event::NoEvent,
-    }
+    Ok(Answer::Taken { total, event: None })
 }
 
 // Does what a verdict on an untagged segment says with the stream of a domain's slot, and with the domain's
 // bytes, which start at from; and answers it.
 pub(crate) fn apply(
     words: &mut [u64; 945],
-    domain: usize,
-    slot: usize,
+    stream: StreamPlace,
     total: usize,
     from: u32,
     store: &mut [u8],
-    verdict: Verdict,
+    verdict: Result<Verdict, Refusal>,
     payload: &[u8],
-) -> Answer
-    requires { (domain < 4) × (slot < 4) }
-    ensures { (result ≡ (parts_applied (stream_of (rnic_at words.old) domain slot) total verdict).answer) × (rnic_at words.new ≡ lifted_of (rnic_at words.old) domain slot (parts_applied (stream_of (rnic_at words.old) domain slot) total verdict)) × (store.new ≡ applied_bytes from verdict payload.now store.old) }
+) -> Result<Answer, LocalRefusal>
+    ensures { (result ≡ (parts_applied (stream_of (rnic_at words.old) stream.domain stream.slot) total verdict).answer) × (rnic_at words.new ≡ lifted_of (rnic_at words.old) stream.domain stream.slot (parts_applied (stream_of (rnic_at words.old) stream.domain stream.slot) total verdict)) × (store.new ≡ applied_bytes from verdict payload.now store.old) }
 {
     match verdict {
-        Verdict::Refused(refusal) => end(words, domain, slot, refusal),
-        Verdict::Nothing => taken(total),
-        Verdict::Write(at) => {
+        Err(refusal) => end(words, stream, refusal),
+        Ok(Verdict::Nothing) => taken(total),
+        Ok(Verdict::Write(at)) => {
             place_from(store, from, at, payload);
             taken(total)
         }
-        Verdict::SendMore {
-            at,
-            opcode,
-            taken: count,
-        } => {
+        Ok(
+            Verdict::SendMore {
+                at,
+                opcode,
+                taken: count,
+            },
+        ) => {
             place_from(store, from, at, payload);
-            let sends = load_sends(words, domain, slot);
-            store_sends(words, domain, slot, sends.sending(opcode, count));
+            let sends = load_sends(words, stream.domain, stream.slot);
+            store_sends(
+                words,
+                stream.domain,
+                stream.slot,
+                sends.sending(opcode, count),
+            );
             taken(total)
         }
-        Verdict::SendLast {
-            at,
-            opcode,
-            start,
-            len,
-            invalidate: which,
-        } => {
+        Ok(
+            Verdict::SendLast {
+                at,
+                opcode,
+                start,
+                len,
+                invalidate: which,
+            },
+        ) => {
             place_from(store, from, at, payload);
-            let sends = load_sends(words, domain, slot);
-            store_sends(words, domain, slot, sends.sent());
-            kill(words, domain, which);
+            let sends = load_sends(words, stream.domain, stream.slot);
+            store_sends(words, stream.domain, stream.slot, sends.sent());
+            kill(words, stream.domain, which);
             let event = sent_event(start, len, opcode, which);
-            Answer::Taken { total, event }
+            Ok(Answer::Taken { total, event })
         }
-        Verdict::Read(read) => {
-            let reads = load_reads(words, domain, slot);
-            store_reads(words, domain, slot, reads.queued(read));
+        Ok(Verdict::Read(read)) => {
+            let reads = load_reads(words, stream.domain, stream.slot);
+            store_reads(words, stream.domain, stream.slot, reads.queued(read));
             taken(total)
         }
-        Verdict::Terminate { layer, etype, code } => {
-            let terminates = load_terminates(words, domain, slot);
-            store_phase(words, domain, slot, phase_of(3));
-            store_terminates(words, domain, slot, terminates.risen());
-            Answer::Taken {
+        Ok(Verdict::Terminate { layer, etype, code }) => {
+            let terminates = load_terminates(words, stream.domain, stream.slot);
+            store_phase(words, stream.domain, stream.slot, phase_of(3));
+            store_terminates(words, stream.domain, stream.slot, terminates.risen());
+            Ok(Answer::Taken {
                 total,
-                event: Event::Terminated { layer, etype, code },
-            }
+                event: Some(Event::Terminated { layer, etype, code }),
+            })
         }
     }
 }
 
 // The same for a tagged segment, which is refused, empty or written: apart from the rest, since it has to be
-// fast. The other arms are never reached.
+// fast. The last arm is never reached.
 pub(crate) fn apply_tagged(
     words: &mut [u64; 945],
-    domain: usize,
-    slot: usize,
+    stream: StreamPlace,
     total: usize,
     from: u32,
     store: &mut [u8],
-    verdict: Verdict,
+    verdict: Result<Verdict, Refusal>,
     payload: &[u8],
-) -> Answer
-    requires { (domain < 4) × (slot < 4) × OfTagged verdict }
-    ensures { (result ≡ (parts_applied (stream_of (rnic_at words.old) domain slot) total verdict).answer) × (rnic_at words.new ≡ lifted_of (rnic_at words.old) domain slot (parts_applied (stream_of (rnic_at words.old) domain slot) total verdict)) × (store.new ≡ applied_bytes from verdict payload.now store.old) }
+) -> Result<Answer, LocalRefusal>
+    requires { OfTagged verdict }
+    ensures { (result ≡ (parts_applied (stream_of (rnic_at words.old) stream.domain stream.slot) total verdict).answer) × (rnic_at words.new ≡ lifted_of (rnic_at words.old) stream.domain stream.slot (parts_applied (stream_of (rnic_at words.old) stream.domain stream.slot) total verdict)) × (store.new ≡ applied_bytes from verdict payload.now store.old) }
 {
     match verdict {
-        Verdict::Refused(refusal) => end(words, domain, slot, refusal),
-        Verdict::Nothing => taken(total),
-        Verdict::Write(at) => {
-            place_from(store, from, at, payload);
-            taken(total)
-        }
-        Verdict::SendMore {
-            at: _,
-            opcode: _,
-            taken: _,
-        } => taken(0),
-        Verdict::SendLast {
-            at: _,
-            opcode: _,
-            start: _,
-            len: _,
-            invalidate: _,
-        } => taken(0),
-        Verdict::Read(_) => taken(0),
-        Verdict::Terminate {
-            layer: _,
-            etype: _,
-            code: _,
-        } => taken(0),
+        Err(refusal) => end(words, stream, refusal),
+        Ok(verdict) => match verdict {
+            Verdict::Nothing => taken(total),
+            Verdict::Write(at) => {
+                place_from(store, from, at, payload);
+                taken(total)
+            }
+            _ => taken(0),
+        },
     }
 }

@@ -1,5 +1,5 @@
 // What an untagged segment is judged to be, by the one window that it names and the one queue that it goes to.
-ghost use Rattle.std.specs.Prelude.{◌≡◌, ◌<◌, length};
+ghost use Rattle.std.specs.Prelude.{◌≡◌, length};
 ghost use Rattle.memory.specs.Window.{window_at, slot_named};
 ghost use Rattle.ddp.specs.Untagged.{untagged_of};
 ghost use Rattle.rdmap.specs.Message.{stag_named, queue_of, untagged_verdict};
@@ -14,14 +14,16 @@ use block::sends::{Head, load_head};
 use block::terminates::load_terminates;
 use block::window::load_window;
 use ddp::header::UntaggedHeader;
+use ddp::refusal::Refusal;
 use ddp::untagged::Queue;
 use memory::window::slot_named;
 use rdmap::message::{Verdict, judge_untagged_segment, stag_named};
+use slots::place::StreamPlace;
 
 // What a queue of the stream of a domain's slot expects; head is that of its sends.
-fn queue_of(words: &[u64; 945], domain: usize, slot: usize, head: Head, qn: u32) -> Queue
-    requires { (domain < 4) × (slot < 4) × (head ≡ head_of (stream_of (rnic_at words.now) domain slot).sends) }
-    ensures { result ≡ queue_of (stream_of (rnic_at words.now) domain slot) qn }
+fn queue_of(words: &[u64; 945], at: StreamPlace, head: Head, qn: u32) -> Queue
+    requires { head ≡ head_of (stream_of (rnic_at words.now) at.domain at.slot).sends }
+    ensures { result ≡ queue_of (stream_of (rnic_at words.now) at.domain at.slot) qn }
 {
     if qn == 0 {
         let buffer = head.buffer;
@@ -33,7 +35,7 @@ fn queue_of(words: &[u64; 945], domain: usize, slot: usize, head: Head, qn: u32)
         };
     }
     if qn == 1 {
-        let tally = load_tally(words, domain, slot);
+        let tally = load_tally(words, at.domain, at.slot);
         return Queue {
             msn: tally.msn,
             room: tally.count < 8,
@@ -41,25 +43,23 @@ fn queue_of(words: &[u64; 945], domain: usize, slot: usize, head: Head, qn: u32)
             taken: 0,
         };
     }
-    let terminates = load_terminates(words, domain, slot);
+    let terminates = load_terminates(words, at.domain, at.slot);
     terminates.queue()
 }
 
 // Judges an untagged segment for the stream of a domain's slot.
 pub(crate) fn judge_untagged(
     words: &[u64; 945],
-    domain: usize,
-    slot: usize,
+    at: StreamPlace,
     h: UntaggedHeader,
     payload: &[u8],
-) -> Verdict
-    requires { (domain < 4) × (slot < 4) }
-    ensures { result ≡ untagged_verdict (window_at (domain_at (rnic_at words.now) domain).windows (slot_named (stag_named h payload.now))) domain (stream_of (rnic_at words.now) domain slot).sends.opcode (current_buffer (stream_of (rnic_at words.now) domain slot).sends) h payload.now (untagged_of (queue_of (stream_of (rnic_at words.now) domain slot) h.qn) h.qn h.msn h.mo (length payload.now)) }
+) -> Result<Verdict, Refusal>
+    ensures { result ≡ untagged_verdict (window_at (domain_at (rnic_at words.now) at.domain).windows (slot_named (stag_named h payload.now))) at.domain (stream_of (rnic_at words.now) at.domain at.slot).sends.opcode (current_buffer (stream_of (rnic_at words.now) at.domain at.slot).sends) h payload.now (untagged_of (queue_of (stream_of (rnic_at words.now) at.domain at.slot) h.qn) h.qn h.msn h.mo (length payload.now)) }
 {
-    let head = load_head(words, domain, slot);
-    let q = queue_of(words, domain, slot, head, h.qn);
-    let w = load_window(words, domain, slot_named(stag_named(h, payload)));
+    let head = load_head(words, at.domain, at.slot);
+    let q = queue_of(words, at, head, h.qn);
+    let w = load_window(words, at.domain, slot_named(stag_named(h, payload)));
     let opcode = head.opcode;
     let buffer = head.buffer;
-    judge_untagged_segment(w, domain as u64, q, opcode, buffer, h, payload)
+    judge_untagged_segment(w, at.domain as u64, q, opcode, buffer, h, payload)
 }

@@ -1,10 +1,9 @@
 // Offers: a receive of bytes that TCP may have cut anywhere. A stream that holds nothing receives an FPDU
 // where it lies; what completes none is kept in the stream's room, and what comes next is put behind it.
-ghost use Rattle.std.specs.Prelude.{◌≡◌, ◌<◌, length, take};
+ghost use Rattle.std.specs.Prelude.{◌≡◌, ◌<◌, ◌/◌, ◌%◌, length, take, Ok};
 ghost use Rattle.holding.specs.Pending.{room_bytes, gathered, held_now, room_after};
 ghost use Rattle.rdmap.specs.Framing.{framing_holding};
 ghost use Rattle.rdmap.specs.Stream.{with_framing};
-ghost use Rattle.rdmap.specs.declared.phase.Readiness.TheVariants.{Ready};
 ghost use Rattle.rdmap.specs.Phase.{readiness};
 ghost use Rattle.rnic.specs.Offer.{rooms_bytes, offered_owned, offered_owned_store, offered_owned_rooms, rnic_offered, rnic_offer_answer, rnic_offered_store, rnic_offered_rooms, held_bytes, held_count};
 ghost use Rattle.holding.specs.Offer.{offer_answer};
@@ -21,27 +20,26 @@ use calls::words::{kept_words, offered, refused_words};
 use holding::gather::{Gathered, ROOM, ROOMS, gather, held_in, held_now};
 use memory::part::{Part, fits_in};
 use rdmap::framing::Framing;
-use rdmap::phase::Readiness;
+use slots::place::StreamPlace;
+use wire::refusal::LocalRefusal;
 
 // Puts the bytes of an offer behind those that the stream of a domain's slot holds, and stores how many it
 // holds then: none where they are enough.
 fn hold(
     words: &mut [u64; 945],
-    domain: usize,
-    slot: usize,
+    at: StreamPlace,
     framing: Framing,
     room: &mut [u8],
     bytes: &[u8],
 ) -> Gathered
-    requires { (domain < 4) × (slot < 4) }
-    ensures { (result ≡ gathered (take framing.held room.old) bytes.now) × (rnic_at words.new ≡ with_stream_of (rnic_at words.old) domain slot (with_framing (stream_of (rnic_at words.old) domain slot) (framing_holding framing (held_now result)))) × (room.new ≡ room_after (take framing.held room.old) bytes.now room.old) }
+    ensures { (result ≡ gathered (take framing.held room.old) bytes.now) × (rnic_at words.new ≡ with_stream_of (rnic_at words.old) at.domain at.slot (with_framing (stream_of (rnic_at words.old) at.domain at.slot) (framing_holding framing (held_now result)))) × (room.new ≡ room_after (take framing.held room.old) bytes.now room.old) }
 {
     let g = gather(room, framing.held, bytes);
     let next = Framing {
         crc: framing.crc,
         held: held_now(g),
     };
-    store_framing(words, domain, slot, next);
+    store_framing(words, at.domain, at.slot, next);
     g
 }
 
@@ -49,8 +47,7 @@ fn hold(
 // bytes that complete none are kept.
 fn offer_fresh(
     words: &mut [u64; 945],
-    domain: usize,
-    slot: usize,
+    at: StreamPlace,
     part: Part,
     framing: Framing,
     store: &mut [u8],
@@ -58,14 +55,14 @@ fn offer_fresh(
     bytes: &[u8],
     answer: &mut [u64; 8],
 )
-    requires { (domain < 4) × (slot < 4) × (readiness (stream_of (rnic_at words.old) domain slot).phase ≡ Ready) × (framing ≡ (stream_of (rnic_at words.old) domain slot).framing) × (framing.held ≡ 0) }
-    ensures { (answer.new ≡ offer_words (offer_answer_of (rnic_at words.old) domain slot room.old bytes.now)) × (rnic_at words.new ≡ offered_rnic_of (rnic_at words.old) domain slot room.old bytes.now) × (store.new ≡ offered_bytes_of (rnic_at words.old) domain slot part room.old bytes.now store.old) × (room.new ≡ offered_room_of (rnic_at words.old) domain slot room.old bytes.now) }
+    requires { (readiness (stream_of (rnic_at words.old) at.domain at.slot).phase ≡ Ok tt) × (framing ≡ (stream_of (rnic_at words.old) at.domain at.slot).framing) × (framing.held ≡ 0) }
+    ensures { (answer.new ≡ offer_words (offer_answer_of (rnic_at words.old) at.domain at.slot room.old bytes.now)) × (rnic_at words.new ≡ offered_rnic_of (rnic_at words.old) at.domain at.slot room.old bytes.now) × (store.new ≡ offered_bytes_of (rnic_at words.old) at.domain at.slot part room.old bytes.now store.old) × (room.new ≡ offered_room_of (rnic_at words.old) at.domain at.slot room.old bytes.now) }
 {
-    first_words(words, domain, slot, part, framing.crc, store, bytes, answer);
+    first_words(words, at, part, framing.crc, store, bytes, answer);
     let kind = answer[0];
     offered(answer, 0, bytes.len() as u64);
     if kind == 5 {
-        hold(words, domain, slot, framing, room, bytes);
+        hold(words, at, framing, room, bytes);
         return;
     }
 }
@@ -74,8 +71,7 @@ fn offer_fresh(
 // enough of it is there.
 fn offer_held(
     words: &mut [u64; 945],
-    domain: usize,
-    slot: usize,
+    at: StreamPlace,
     part: Part,
     framing: Framing,
     store: &mut [u8],
@@ -83,26 +79,17 @@ fn offer_held(
     bytes: &[u8],
     answer: &mut [u64; 8],
 )
-    requires { (domain < 4) × (slot < 4) × (readiness (stream_of (rnic_at words.old) domain slot).phase ≡ Ready) × (framing ≡ (stream_of (rnic_at words.old) domain slot).framing) × (0 < framing.held) × (length room.old ≡ room_bytes) }
-    ensures { (answer.new ≡ offer_words (offer_answer_of (rnic_at words.old) domain slot room.old bytes.now)) × (rnic_at words.new ≡ offered_rnic_of (rnic_at words.old) domain slot room.old bytes.now) × (store.new ≡ offered_bytes_of (rnic_at words.old) domain slot part room.old bytes.now store.old) × (room.new ≡ offered_room_of (rnic_at words.old) domain slot room.old bytes.now) }
+    requires { (readiness (stream_of (rnic_at words.old) at.domain at.slot).phase ≡ Ok tt) × (framing ≡ (stream_of (rnic_at words.old) at.domain at.slot).framing) × (0 < framing.held) × (length room.old ≡ room_bytes) }
+    ensures { (answer.new ≡ offer_words (offer_answer_of (rnic_at words.old) at.domain at.slot room.old bytes.now)) × (rnic_at words.new ≡ offered_rnic_of (rnic_at words.old) at.domain at.slot room.old bytes.now) × (store.new ≡ offered_bytes_of (rnic_at words.old) at.domain at.slot part room.old bytes.now store.old) × (room.new ≡ offered_room_of (rnic_at words.old) at.domain at.slot room.old bytes.now) }
 {
     let count = held_in(room, framing.held);
-    match hold(words, domain, slot, framing, room, bytes) {
+    match hold(words, at, framing, room, bytes) {
         Gathered::Short(_) => {
             *answer = kept_words(bytes.len() as u64);
         }
         Gathered::Enough(n) => {
             let pending = &room[..n];
-            first_words(
-                words,
-                domain,
-                slot,
-                part,
-                framing.crc,
-                store,
-                pending,
-                answer,
-            );
+            first_words(words, at, part, framing.crc, store, pending, answer);
             offered(answer, count as u64, bytes.len() as u64);
         }
     }
@@ -111,35 +98,27 @@ fn offer_held(
 // An offer to the stream of a domain's slot; the domain's bytes and the stream's room are lent.
 fn offer_slot(
     words: &mut [u64; 945],
-    domain: usize,
-    slot: usize,
+    at: StreamPlace,
     part: Part,
     store: &mut [u8],
     room: &mut [u8],
     bytes: &[u8],
     answer: &mut [u64; 8],
 )
-    requires { (domain < 4) × (slot < 4) × (length room.old ≡ room_bytes) }
-    ensures { (answer.new ≡ offer_words (offer_answer_of (rnic_at words.old) domain slot room.old bytes.now)) × (rnic_at words.new ≡ offered_rnic_of (rnic_at words.old) domain slot room.old bytes.now) × (store.new ≡ offered_bytes_of (rnic_at words.old) domain slot part room.old bytes.now store.old) × (room.new ≡ offered_room_of (rnic_at words.old) domain slot room.old bytes.now) }
+    requires { length room.old ≡ room_bytes }
+    ensures { (answer.new ≡ offer_words (offer_answer_of (rnic_at words.old) at.domain at.slot room.old bytes.now)) × (rnic_at words.new ≡ offered_rnic_of (rnic_at words.old) at.domain at.slot room.old bytes.now) × (store.new ≡ offered_bytes_of (rnic_at words.old) at.domain at.slot part room.old bytes.now store.old) × (room.new ≡ offered_room_of (rnic_at words.old) at.domain at.slot room.old bytes.now) }
 {
-    let phase = load_phase(words, domain, slot);
-    match phase.ready() {
-        Readiness::Ready => {}
-        Readiness::NotReady(number) => {
-            *answer = refused_words(number);
-            return;
-        }
-    }
-    let framing = load_framing(words, domain, slot);
-    if framing.held == 0 {
-        offer_fresh(
-            words, domain, slot, part, framing, store, room, bytes, answer,
-        );
+    let phase = load_phase(words, at.domain, at.slot);
+    if let Err(refusal) = phase.ready() {
+        *answer = refused_words(refusal);
         return;
     }
-    offer_held(
-        words, domain, slot, part, framing, store, room, bytes, answer,
-    );
+    let framing = load_framing(words, at.domain, at.slot);
+    if framing.held == 0 {
+        offer_fresh(words, at, part, framing, store, room, bytes, answer);
+        return;
+    }
+    offer_held(words, at, part, framing, store, room, bytes, answer);
 }
 
 // An offer to a stream in range, with slices of the right length: the owner is lent its own part, and the
@@ -149,15 +128,14 @@ fn offer_owned(
     store: &mut [u8],
     rooms: &mut [u8],
     stream: u64,
+    at: StreamPlace,
     bytes: &[u8],
     answer: &mut [u64; 8],
 )
-    requires { (stream < 16) × (length rooms.old ≡ rooms_bytes) }
-    ensures { (answer.new ≡ offer_words (offer_answer (length (held_bytes (rnic_at words.old) stream rooms.old)) (length bytes.now) (offered_owned (rnic_at words.old) (length store.old) stream rooms.old bytes.now).answer)) × (rnic_at words.new ≡ (offered_owned (rnic_at words.old) (length store.old) stream rooms.old bytes.now).rnic) × (store.new ≡ offered_owned_store (rnic_at words.old) stream rooms.old bytes.now store.old) × (rooms.new ≡ offered_owned_rooms (rnic_at words.old) (length store.old) stream rooms.old bytes.now) }
+    requires { (at.domain ≡ stream / 4) × (at.slot ≡ stream % 4) × (length rooms.old ≡ rooms_bytes) }
+    ensures { (answer.new ≡ offer_words (offer_answer (length (held_bytes (rnic_at words.old) stream rooms.old)) (length bytes.now) (offered_owned (rnic_at words.old) (length store.old) stream rooms.old bytes.now).0)) × (rnic_at words.new ≡ (offered_owned (rnic_at words.old) (length store.old) stream rooms.old bytes.now).1) × (store.new ≡ offered_owned_store (rnic_at words.old) stream rooms.old bytes.now store.old) × (rooms.new ≡ offered_owned_rooms (rnic_at words.old) (length store.old) stream rooms.old bytes.now) }
 {
-    let domain = (stream / 4) as usize;
-    let slot = (stream % 4) as usize;
-    let part = load_part(words, domain);
+    let part = load_part(words, at.domain);
     if fits_in(part, store.len()) {
         let start = part.start as usize;
         let end = part.end as usize;
@@ -165,8 +143,7 @@ fn offer_owned(
         let upto = from + ROOM;
         offer_slot(
             words,
-            domain,
-            slot,
+            at,
             part,
             &mut store[start..end],
             &mut rooms[from..upto],
@@ -175,7 +152,7 @@ fn offer_owned(
         );
         return;
     }
-    *answer = refused_words(9);
+    *answer = refused_words(LocalRefusal::BadPlace);
 }
 
 // Offers bytes to a stream; the store and the rooms of all streams are lent.
@@ -187,33 +164,38 @@ pub fn offer(
     bytes: &[u8],
     answer: &mut [u64; 8],
 )
-    ensures { (answer.new ≡ offer_words (rnic_offer_answer (rnic_at words.old) (length store.old) stream rooms.old bytes.now)) × (rnic_at words.new ≡ (rnic_offered (rnic_at words.old) (length store.old) stream rooms.old bytes.now).rnic) × (store.new ≡ rnic_offered_store (rnic_at words.old) stream rooms.old bytes.now store.old) × (rooms.new ≡ rnic_offered_rooms (rnic_at words.old) (length store.old) stream rooms.old bytes.now) }
+    ensures { (answer.new ≡ offer_words (rnic_offer_answer (rnic_at words.old) (length store.old) stream rooms.old bytes.now)) × (rnic_at words.new ≡ (rnic_offered (rnic_at words.old) (length store.old) stream rooms.old bytes.now).1) × (store.new ≡ rnic_offered_store (rnic_at words.old) stream rooms.old bytes.now store.old) × (rooms.new ≡ rnic_offered_rooms (rnic_at words.old) (length store.old) stream rooms.old bytes.now) }
 {
-    if stream <= 15 {
-        let len = load_len(words);
-        if store.len() == len as usize {
-            if rooms.len() == ROOMS {
-                offer_owned(words, store, rooms, stream, bytes, answer);
-                return;
-            }
-            *answer = refused_words(2);
+    let Some(at) = StreamPlace::of(stream) else {
+        *answer = refused_words(LocalRefusal::OutOfRange);
+        return;
+    };
+    let len = load_len(words);
+    if store.len() == len as usize {
+        if rooms.len() == ROOMS {
+            offer_owned(words, store, rooms, stream, at, bytes, answer);
             return;
         }
-        *answer = refused_words(2);
+        *answer = refused_words(LocalRefusal::OtherLength);
         return;
     }
-    *answer = refused_words(1);
+    *answer = refused_words(LocalRefusal::OtherLength);
+}
+
+// How many bytes the stream of a domain's slot holds.
+fn held_at(words: &[u64; 945], at: StreamPlace) -> u32
+    ensures { result ≡ (stream_of (rnic_at words.now) at.domain at.slot).framing.held }
+{
+    let framing = load_framing(words, at.domain, at.slot);
+    framing.held
 }
 
 // How many bytes a stream holds; 0 of a number that is no stream's.
 pub fn held_count(words: &[u64; 945], stream: u64) -> u32
     ensures { result ≡ held_count (rnic_at words.now) stream }
 {
-    if stream <= 15 {
-        let domain = (stream / 4) as usize;
-        let slot = (stream % 4) as usize;
-        let framing = load_framing(words, domain, slot);
-        return framing.held;
-    }
-    0
+    let Some(at) = StreamPlace::of(stream) else {
+        return 0;
+    };
+    held_at(words, at)
 }

@@ -4,8 +4,9 @@ ghost use Rattle.rnic.specs.Rnic.{opened_rnic};
 ghost use Rattle.block.specs.Device.{rnic_at};
 
 use block::device::{clear_block, store_opened};
-use memory::part::{Outcome, Part};
+use memory::part::Part;
 use rnic::{in_order, length_in_range};
+use wire::refusal::LocalRefusal;
 
 // Opens a device over a store of a length, with four parts, whatever the words were; the store is not touched.
 pub fn open(
@@ -19,8 +20,8 @@ pub fn open(
     e2: u64,
     s3: u64,
     e3: u64,
-) -> Outcome
-    ensures { (result ≡ (opened_rnic len s0 e0 s1 e1 s2 e2 s3 e3).outcome) × (rnic_at words.new ≡ (opened_rnic len s0 e0 s1 e1 s2 e2 s3 e3).rnic) }
+) -> Result<(), LocalRefusal>
+    ensures { (result ≡ (opened_rnic len s0 e0 s1 e1 s2 e2 s3 e3).0) × (rnic_at words.new ≡ (opened_rnic len s0 e0 s1 e1 s2 e2 s3 e3).1) }
 {
     if length_in_range(len) {
         if in_order(len, s0, e0, s1, e1, s2, e2, s3, e3) {
@@ -44,11 +45,11 @@ pub fn open(
                     end: e3 as u32,
                 },
             );
-            return Outcome::Done;
+            return Ok(());
         }
         clear_block(words);
-        return Outcome::Refused(9);
+        return Err(LocalRefusal::BadPlace);
     }
     clear_block(words);
-    Outcome::Refused(1)
+    Err(LocalRefusal::OutOfRange)
 }

@@ -1,6 +1,6 @@
 // A protection domain (the paper's branch): its part of the store, its sixteen windows and its four
-// streams, by value, and what each call does with them. A function here has no other domain's
-// records in hand, and is lent no other domain's bytes.
+// streams, by value, and what each call does with them: it answers a pair, what it says and the domain
+// after it. A function here has no other domain's records in hand, and is lent no other domain's bytes.
 //
 // Read `Domain` first, then `receive`, which takes the first FPDU of some bytes for a stream: the crate
 // `arrival` does it over what it needs of the domain, and the crate `overlap` says whether two writers
@@ -31,12 +31,14 @@ ghost use Rattle.ddp.specs.Segment.{segment_read};
 use arrival::Answer;
 use arrival::parts::{kill, receive_parts};
 use ddp::segment::{SegmentRead, read_segment};
-use memory::part::{Outcome, Part};
+use memory::part::Part;
 use memory::window::Window;
 use meter::gauge::Reading;
 use meter::{Meter, new_meter};
-use overlap::{either_of, has_write, streams_share, windows_share};
-use rdmap::stream::{CloseAnswer, StateAnswer, Stream, TakeAnswer, closed_stream};
+use overlap::{has_write, streams_share, windows_share};
+use rdmap::read::ReadRequest;
+use rdmap::stream::{Left, State, Stream, closed_stream};
+use wire::refusal::LocalRefusal;
 
 // What a domain holds.
 #[repr(C)]
@@ -48,169 +50,104 @@ pub struct Domain {
     pub meter: Meter,
 }
 
-// What a call answers, and the domain after it.
-#[derive(Drop)]
-pub struct DomainDone {
-    pub outcome: Outcome,
-    pub domain: Domain,
-}
-
-#[derive(Drop)]
-pub struct DomainClosed {
-    pub answer: CloseAnswer,
-    pub domain: Domain,
-}
-
-#[derive(Drop)]
-pub struct DomainTaken {
-    pub answer: TakeAnswer,
-    pub domain: Domain,
-}
-
-// What receive answers, and the domain after it.
-#[derive(Drop)]
-pub struct Received {
-    pub answer: Answer,
-    pub domain: Domain,
-}
-
 // The domain with the stream of a slot exchanged.
-fn with_stream(d: Domain, slot: usize, stream: Stream) -> Domain
+fn with_stream(mut d: Domain, slot: usize, stream: Stream) -> Domain
     requires { slot < 4 }
     ensures { result ≡ with_stream d slot stream }
 {
-    let mut next = d;
-    next.streams[slot] = stream;
-    next
+    d.streams[slot] = stream;
+    d
 }
 
 // Whether some of the len bytes from place are a write window's or a waiting buffer's of the domain.
+#[tactic(auto, unfolding(crate::specs::Sharing::domain_shares))]
 pub fn domain_shares(d: Domain, place: u64, len: u64) -> bool
     ensures { result ≡ domain_shares d place len }
 {
-    let windows = d.windows;
-    let streams = d.streams;
-    let by_windows = windows_share(windows, place, len);
-    either_of(by_windows, streams_share(streams, place, len))
+    windows_share(d.windows, place, len) || streams_share(d.streams, place, len)
 }
 
 // What a call answers that is refused with 19, asked last, where bytes are shared; d is the domain before it.
-fn unless_shared(shared: bool, d: Domain, done: DomainDone) -> DomainDone
+#[tactic(auto, unfolding(crate::specs::Sharing::lastly))]
+fn unless_shared(
+    shared: bool,
+    d: Domain,
+    done: (Result<(), LocalRefusal>, Domain),
+) -> (Result<(), LocalRefusal>, Domain)
     ensures { result ≡ lastly shared d done }
 {
-    let outcome = done.outcome;
-    match outcome {
-        Outcome::Done => {
-            if shared {
-                return DomainDone {
-                    outcome: Outcome::Refused(19),
-                    domain: d,
-                };
-            }
-            done
-        }
-        Outcome::Refused(_) => done,
+    if shared && done.0.is_ok() {
+        return (Err(LocalRefusal::SharedByte), d);
     }
+    done
 }
 
 // Opens a stream with the CRC on or off.
-pub fn open_stream(d: Domain, slot: u64, crc: bool) -> DomainDone
+#[tactic(auto, unfolding(crate::specs::Domain::domain_opened))]
+pub fn open_stream(d: Domain, slot: u64, crc: bool) -> (Result<(), LocalRefusal>, Domain)
     ensures { result ≡ domain_opened d slot crc }
 {
     if slot <= 3 {
         let at = slot as usize;
-        let s = d.streams[at];
-        let done = s.open(crc);
-        let outcome = done.outcome;
-        let stream = done.stream;
-        return DomainDone {
-            outcome,
-            domain: with_stream(d, at, stream),
-        };
+        let (outcome, stream) = d.streams[at].open(crc);
+        return (outcome, with_stream(d, at, stream));
     }
-    DomainDone {
-        outcome: Outcome::Refused(1),
-        domain: d,
-    }
+    (Err(LocalRefusal::OutOfRange), d)
 }
 
 // Closes a stream.
-pub fn close_stream(d: Domain, slot: u64) -> DomainClosed
+#[tactic(auto, unfolding(crate::specs::Domain::domain_closed))]
+pub fn close_stream(d: Domain, slot: u64) -> (Result<Left, LocalRefusal>, Domain)
     ensures { result ≡ domain_closed d slot }
 {
     if slot <= 3 {
         let at = slot as usize;
-        let s = d.streams[at];
-        let done = s.close();
-        let answer = done.answer;
-        let stream = done.stream;
-        return DomainClosed {
-            answer,
-            domain: with_stream(d, at, stream),
-        };
+        let (answer, stream) = d.streams[at].close();
+        return (answer, with_stream(d, at, stream));
     }
-    DomainClosed {
-        answer: CloseAnswer::Refused(1),
-        domain: d,
-    }
+    (Err(LocalRefusal::OutOfRange), d)
 }
 
 // Posts a buffer on a stream.
-pub fn post(d: Domain, slot: u64, start: u64, len: u64) -> DomainDone
+#[tactic(auto, unfolding(crate::specs::Domain::domain_posted))]
+pub fn post(d: Domain, slot: u64, start: u64, len: u64) -> (Result<(), LocalRefusal>, Domain)
     ensures { result ≡ domain_posted d slot start len }
 {
     if slot <= 3 {
         let at = slot as usize;
-        let s = d.streams[at];
-        let part = d.part;
-        let done = s.post(part, start, len);
-        let outcome = done.outcome;
-        let stream = done.stream;
-        let next = DomainDone {
-            outcome,
-            domain: with_stream(d, at, stream),
-        };
+        let (outcome, stream) = d.streams[at].post(d.part, start, len);
+        let next = (outcome, with_stream(d, at, stream));
         return unless_shared(domain_shares(d, start, len), d, next);
     }
-    DomainDone {
-        outcome: Outcome::Refused(1),
-        domain: d,
-    }
+    (Err(LocalRefusal::OutOfRange), d)
 }
 
 // Takes the oldest read that waits on a stream.
-pub fn take(d: Domain, slot: u64) -> DomainTaken
+#[tactic(auto, unfolding(crate::specs::Domain::domain_taken))]
+pub fn take(d: Domain, slot: u64) -> (Result<ReadRequest, LocalRefusal>, Domain)
     ensures { result ≡ domain_taken d slot }
 {
     if slot <= 3 {
         let at = slot as usize;
-        let s = d.streams[at];
-        let done = s.take();
-        let answer = done.answer;
-        let stream = done.stream;
-        return DomainTaken {
-            answer,
-            domain: with_stream(d, at, stream),
-        };
+        let (answer, stream) = d.streams[at].take();
+        return (answer, with_stream(d, at, stream));
     }
-    DomainTaken {
-        answer: TakeAnswer::Refused(1),
-        domain: d,
-    }
+    (Err(LocalRefusal::OutOfRange), d)
 }
 
 // The state of a stream, with what waits on it.
-pub fn stream_state(d: Domain, slot: u64) -> StateAnswer
+#[tactic(auto, unfolding(crate::specs::Domain::domain_state))]
+pub fn stream_state(d: Domain, slot: u64) -> Result<State, LocalRefusal>
     ensures { result ≡ domain_state d slot }
 {
     if slot <= 3 {
-        let s = d.streams[slot as usize];
-        return s.state();
+        return Ok(d.streams[slot as usize].state());
     }
-    StateAnswer::Refused(1)
+    Err(LocalRefusal::OutOfRange)
 }
 
 // Registers a window.
+#[tactic(auto, unfolding(crate::specs::Domain::domain_registered))]
 pub fn register(
     d: Domain,
     slot: u64,
@@ -219,40 +156,23 @@ pub fn register(
     len: u64,
     place: u64,
     rights: u64,
-) -> DomainDone
+) -> (Result<(), LocalRefusal>, Domain)
     ensures { result ≡ domain_registered d slot key base len place rights }
 {
-    let windows = d.windows;
-    let part = d.part;
-    let done = memory::window::register(windows, part, slot, key, base, len, place, rights);
-    let outcome = done.outcome;
-    let after = done.windows;
-    let mut next = d;
-    next.windows = after;
-    let next = DomainDone {
-        outcome,
-        domain: next,
-    };
-    if has_write(rights) {
-        return unless_shared(domain_shares(d, place, len), d, next);
-    }
-    next
+    let (outcome, windows) = memory::window::register(
+        d.windows, d.part, slot, key, base, len, place, rights,
+    );
+    let next = (outcome, Domain { windows, ..d });
+    unless_shared(has_write(rights) && domain_shares(d, place, len), d, next)
 }
 
 // Drops a window.
-pub fn drop_window(d: Domain, slot: u64) -> DomainDone
+#[tactic(auto, unfolding(crate::specs::Domain::domain_dropped))]
+pub fn drop_window(d: Domain, slot: u64) -> (Result<(), LocalRefusal>, Domain)
     ensures { result ≡ domain_dropped d slot }
 {
-    let windows = d.windows;
-    let done = memory::window::drop_window(windows, slot);
-    let outcome = done.outcome;
-    let after = done.windows;
-    let mut next = d;
-    next.windows = after;
-    DomainDone {
-        outcome,
-        domain: next,
-    }
+    let (outcome, windows) = memory::window::drop_window(d.windows, slot);
+    (outcome, Domain { windows, ..d })
 }
 
 // How many payload bytes the first FPDU of bytes has, if it is a Write or a Send.
@@ -260,37 +180,19 @@ fn segment_count(crc: bool, bytes: &[u8]) -> usize
     ensures { result ≡ segment_count (segment_read crc bytes.now) }
 {
     match read_segment(crc, bytes) {
-        SegmentRead::Wait(_) => 0,
-        SegmentRead::Refused(_) => 0,
-        SegmentRead::Tagged {
-            total: _,
-            header: _,
-            start: _,
-            len,
-        } => len,
-        SegmentRead::Untagged {
-            total: _,
-            header,
-            start: _,
-            len,
-        } => {
-            if header.qn == 0 {
-                return len;
-            }
-            0
-        }
+        Ok(SegmentRead::Tagged { len, .. }) => len,
+        Ok(SegmentRead::Untagged { header, len, .. }) => { if header.qn == 0 { len } else { 0 } }
+        Ok(SegmentRead::Wait(_)) | Err(_) => 0,
     }
 }
 
 // The meter after an answer to a segment with so many of them: those of a taken one are counted.
-fn meter_after(m: Meter, answer: Answer, placed: usize) -> Meter
+fn meter_after(m: Meter, answer: Result<Answer, LocalRefusal>, placed: usize) -> Meter
     ensures { result ≡ meter_by answer placed m }
 {
     match answer {
-        Answer::Wait(_) => m,
-        Answer::Taken { total: _, event: _ } => meter::count(m, placed),
-        Answer::Ended(_) => m,
-        Answer::Refused(_) => m,
+        Ok(Answer::Taken { .. }) => meter::count(m, placed),
+        Ok(Answer::Wait(_) | Answer::Ended(_)) | Err(_) => m,
     }
 }
 
@@ -298,50 +200,47 @@ fn meter_after(m: Meter, answer: Answer, placed: usize) -> Meter
 pub fn tick(d: Domain) -> Domain
     ensures { result ≡ domain_ticked d }
 {
-    let meter = d.meter;
-    let mut next = d;
-    next.meter = meter::tick(meter);
-    next
+    Domain {
+        meter: meter::tick(d.meter),
+        ..d
+    }
 }
 
 // What the domain's gauge reads as.
 pub fn reading(d: Domain) -> Reading
     ensures { result ≡ domain_reading d }
 {
-    let meter = d.meter;
-    meter::reading(meter)
+    meter::reading(d.meter)
 }
 
 // Takes the first FPDU of bytes for a stream of the domain of this number, whose bytes are lent. What it
 // places is counted.
-pub fn receive(d: Domain, number: u64, store: &mut [u8], slot: u64, bytes: &[u8]) -> Received
+#[tactic(auto, unfolding(crate::specs::Domain::domain_received, crate::specs::Domain::domain_received_bytes))]
+pub fn receive(
+    d: Domain,
+    number: u64,
+    store: &mut [u8],
+    slot: u64,
+    bytes: &[u8],
+) -> (Result<Answer, LocalRefusal>, Domain)
     ensures { (result ≡ domain_received d number slot bytes.now) × (store.new ≡ domain_received_bytes d number slot bytes.now store.old) }
 {
     if slot <= 3 {
         let at = slot as usize;
         let s = d.streams[at];
-        let windows = d.windows;
-        let part = d.part;
-        let done = receive_parts(part, windows, s, number, store, bytes);
-        let answer = done.answer;
-        let stream = done.stream;
-        let which = done.invalidate;
-        let after = kill(windows, which);
-        let framing = s.framing;
-        let meter = d.meter;
-        let counted = meter_after(meter, answer, segment_count(framing.crc, bytes));
-        let mut next = with_stream(d, at, stream);
-        next.windows = after;
-        next.meter = counted;
-        return Received {
-            answer,
-            domain: next,
-        };
+        let done = receive_parts(d.part, d.windows, s, number, store, bytes);
+        let windows = kill(d.windows, done.invalidate);
+        let count = segment_count(s.framing.crc, bytes);
+        return (
+            done.answer,
+            Domain {
+                windows,
+                meter: meter_after(d.meter, done.answer, count),
+                ..with_stream(d, at, done.stream)
+            },
+        );
     }
-    Received {
-        answer: Answer::Refused(1),
-        domain: d,
-    }
+    (Err(LocalRefusal::OutOfRange), d)
 }
 
 // A domain at first: its part, no window live, no stream open.

@@ -36,7 +36,6 @@ and-true true = refl
 and-true false = refl
 
 all-last : (p : ℕ → Bool) (xs : List ℕ) (b : ℕ) → all p (xs ++ (b ∷ [])) ≡ (all p xs && p b)
-unfolding all
 all-last p [] b = and-true (p b)
 all-last p (x ∷ xs) b = ap (λ (t : Bool). p x && t) (all-last p xs b) ∙ sym (and_assoc (p x) (all p xs) (p b))
   where
@@ -64,7 +63,7 @@ behind true false v b e = no_more (is_digit b) (lt-leb (v * 10 + (b - 48)) last 
 behind false k v b e = refl
 
 one_byte : (b : ℕ) → line_of (b ∷ []) ≡ digit_after 0 b
-unfolding line_of digit_after all value_from
+unfolding line_of digit_after value_from
 one_byte b = ap (λ (t : Bool). cond (t && leb (0 * 10 + (b - 48)) last) (Value (0 * 10 + (b - 48))) Bad) (and-true (is_digit b))
 
 pub line_last : (xs : List ℕ) (b : ℕ) → line_of (xs ++ (b ∷ [])) ≡ with_byte (line_of xs) b

@@ -3,21 +3,18 @@ use Prim.Native.Nat.{ℕ, ◌+◌, ◌*◌, ◌≤◌, ◌<◌}
 use mathlib.Core.Bool.{Bool, true, false, cond}
 use mathlib.Core.List.{List, [], ◌∷◌, ◌++◌, append_assoc, append-nil}
 use mathlib.Core.Path.{◌≡◌, refl, sym, ap, ap₂, ◌∙◌, subst}
-use native.Mathlib.Nat.{add-zero}
 use native.Mathlib.Numerals.{add-one}
 use native.Mathlib.Omega.{arith}
 use borrow.Author.Tests.{eq-eqb, ne_eqb}
 use lib.Dec.{eqb, lit≤}
-use lib.ListN.{length, take, drop, get_or, length-append, take-append-drop}
+use lib.ListN.{length, take, get_or, length-append}
 use lib.Seq.{take-suc, take_all}
-use Rattle.wire.proofs.Laws.{take_put, length-put}
 use Rattle.meter.specs.Gauge.{reading_of}
 use Rattle.meter.specs.declared.Meter.{Meter}
 use Rattle.meter.specs.declared.gauge.Reading.{Reading}
 use Rattle.gauge.specs.declared.line.Line.{Line}
 use Rattle.gauge.specs.declared.line.Line.TheVariants.{Empty, Value, Bad}
 use Rattle.gauge.specs.declared.run.State.{State}
-use Rattle.gauge.specs.declared.run.Step.{Step}
 use Rattle.gauge.specs.Line.{with_byte}
 use Rattle.gauge.specs.Text.{reading_text, newline, Placed}
 use Rattle.gauge.specs.Run.{after_line, answer_text, state_at, after_byte, said_at, Stepped, after_bytes, said_bytes, Ran, rest_of, rest_text}
@@ -25,26 +22,22 @@ use Rattle.gauge.proofs.Places.{reading-long}
 
 -- ---- a byte
 
-pub placed-none : (out : List ℕ) (at : ℕ) → Placed [] out at at out
-placed-none out at = record { ends = sym (add-zero at); holds = sym (take-append-drop at out) ∙ ap (λ (n : ℕ). take at out ++ drop n out) (sym (add-zero at)) }
-
-pub stepped_end : (s : State) (b : ℕ) (out after : List ℕ) (count end : ℕ) (next : Meter) → b ≡ 10 → next ≡ after_line s.meter s.line → Placed (answer_text next s.line) out count end after
-    → Stepped s b out count (record { state = state_at Empty next; count = end }) after
+pub stepped_end : (s : State) (b : ℕ) (out after : List ℕ) (next : Meter) → b ≡ 10 → next ≡ after_line s.meter s.line → Placed (answer_text next s.line) out after
+    → Stepped s b out (state_at Empty next) after
 unfolding after_byte said_at
-stepped_end s b out after count end next e n p = record {
+stepped_end s b out after next e n p = record {
   state = rw (eq-eqb b 10 e, n);
-  said = rw (eq-eqb b 10 e) (subst (λ (m : Meter). Placed (answer_text m s.line) out count end after) n p);
+  said = rw (eq-eqb b 10 e) (subst (λ (m : Meter). Placed (answer_text m s.line) out after) n p);
 }
 
-pub stepped_on : (s : State) (b : ℕ) (out : List ℕ) (count : ℕ) (line : Line) → (b ≡ 10 → ⊥) → line ≡ with_byte s.line b
-    → Stepped s b out count (record { state = state_at line s.meter; count = count }) out
+pub stepped_on : (s : State) (b : ℕ) (out : List ℕ) (line : Line) → (b ≡ 10 → ⊥) → line ≡ with_byte s.line b → Stepped s b out (state_at line s.meter) out
 unfolding after_byte said_at
-stepped_on s b out count line h e = record { state = rw (ne_eqb b 10 h, e); said = rw (ne_eqb b 10 h) (placed-none out count) }
+stepped_on s b out line h e = record { state = rw (ne_eqb b 10 h, e); said = rw (ne_eqb b 10 h) (sym (append-nil out)) }
 
 -- the answer by what the line is
-pub answer_read : (m : Meter) (line : Line) (n : ℕ) (r : Reading) (out after : List ℕ) (at end : ℕ) → line ≡ Value n → r ≡ reading_of m.gauge m.ticked → Placed (reading_text r ++ newline) out at end after
-    → Placed (answer_text m line) out at end after
-answer_read m line n r out after at end e f p = rw e (subst (λ (x : Reading). Placed (reading_text x ++ newline) out at end after) f p)
+pub answer_read : (m : Meter) (line : Line) (n : ℕ) (r : Reading) (out after : List ℕ) → line ≡ Value n → r ≡ reading_of m.gauge m.ticked → Placed (reading_text r ++ newline) out after
+    → Placed (answer_text m line) out after
+answer_read m line n r out after e f p = rw e (subst (λ (x : Reading). Placed (reading_text x ++ newline) out after) f p)
 
 answer-long : (m : Meter) (line : Line) → length (answer_text m line) ≤ 42
 answer-long m (Value n) =
@@ -76,29 +69,17 @@ not-empty_value line n e f = let z : ◌≡◌ {A = ℕ} 0 1 = cc in omega arith
 not-empty-bad : (line : Line) → line ≡ Bad → line ≡ Empty → ⊥
 not-empty-bad line e f = let z : ◌≡◌ {A = ℕ} 0 1 = cc in omega arith
 
-rest-placed : (s : State) (next : Meter) (out after : List ℕ) (end : ℕ) → (s.line ≡ Empty → ⊥) → next ≡ after_line s.meter s.line → Placed (answer_text next s.line) out 0 end after
-    → Placed (rest_text s) out 0 end after
-rest-placed s next out after end h n p = rw (rest-is s.meter s.line h) (subst (λ (m : Meter). Placed (answer_text m s.line) out 0 end after) n p)
+rest-placed : (s : State) (next : Meter) (after : List ℕ) → (s.line ≡ Empty → ⊥) → next ≡ after_line s.meter s.line → Placed (answer_text next s.line) [] after
+    → after ≡ rest_text s
+rest-placed s next after h n p = rw (rest-is s.meter s.line h) (subst (λ (m : Meter). Placed (answer_text m s.line) [] after) n p)
 
-pub rest_value : (s : State) (k : ℕ) (next : Meter) (out after : List ℕ) (end : ℕ) → s.line ≡ Value k → next ≡ after_line s.meter s.line → Placed (answer_text next s.line) out 0 end after
-    → Placed (rest_text s) out 0 end after
-rest_value s k next out after end e n p = rest-placed s next out after end (not-empty_value s.line k e) n p
+pub rest_value : (s : State) (k : ℕ) (next : Meter) (out after : List ℕ) → s.line ≡ Value k → next ≡ after_line s.meter s.line → out ≡ [] → Placed (answer_text next s.line) out after
+    → after ≡ rest_text s
+rest_value s k next out after e n c p = rest-placed s next after (not-empty_value s.line k e) n (subst (λ (l : List ℕ). Placed (answer_text next s.line) l after) c p)
 
-pub rest-bad : (s : State) (next : Meter) (out after : List ℕ) (end : ℕ) → s.line ≡ Bad → next ≡ after_line s.meter s.line → Placed (answer_text next s.line) out 0 end after
-    → Placed (rest_text s) out 0 end after
-rest-bad s next out after end e n p = rest-placed s next out after end (not-empty-bad s.line e) n p
-
-rest-long : (m : Meter) (line : Line) → length (rest_of m line) ≤ 42
-rest-long m Empty = lit≤ tt
-rest-long m (Value n) = answer-long (after_line m (Value n)) (Value n)
-rest-long m Bad = lit≤ tt
-
-pub rest-within : (s : State) (out after : List ℕ) (end : ℕ) → 42 ≤ length out → Placed (rest_text s) out 0 end after → end ≤ length after
-rest-within s out after end h p =
-    let a : length (rest_text s) ≤ 42 = rest-long s.meter s.line in
-    let e : end ≡ 0 + length (rest_text s) = p.ends in
-    let l : length after ≡ length out = ap length p.holds ∙ length-put out 0 (rest_text s) (omega arith) in
-    omega arith
+pub rest-bad : (s : State) (next : Meter) (out after : List ℕ) → s.line ≡ Bad → next ≡ after_line s.meter s.line → out ≡ [] → Placed (answer_text next s.line) out after
+    → after ≡ rest_text s
+rest-bad s next out after e n c p = rest-placed s next after (not-empty-bad s.line e) n (subst (λ (l : List ℕ). Placed (answer_text next s.line) l after) c p)
 
 -- ---- bytes after bytes: how the input is cut into chunks does not matter
 
@@ -123,52 +104,40 @@ said-one s xs b = said-append s xs (b ∷ []) ∙ ap (λ (l : List ℕ). said_by
 
 -- ---- a chunk: where the loop stands
 
-pub record Taken (s : State) (chunk out₀ out : List ℕ) (step : Step) (i : ℕ) : Type 0 where
-  pub state : step.state ≡ after_bytes s (take i chunk)
-  pub said : take step.count out ≡ said_bytes s (take i chunk)
-  pub count : step.count ≤ i * 42
-  pub long : length out ≡ length out₀
-  pub index : i ≤ length chunk
+pub record Taken (s : State) (chunk out : List ℕ) (now : State) (i : ℕ) : Type 0 where
+  pub state : now ≡ after_bytes s (take i chunk)
+  pub said : out ≡ said_bytes s (take i chunk)
+  pub count : length out ≤ i * 42
 
-pub taken_none : (s : State) (chunk out : List ℕ) → Taken s chunk out out (record { state = s; count = 0 }) 0
+pub taken_none : (s : State) (chunk out : List ℕ) → out ≡ [] → Taken s chunk out s 0
 unfolding after_bytes said_bytes
-taken_none s chunk out = record { state = refl; said = refl; count = lit≤ tt; long = refl; index = omega arith }
+taken_none s chunk out e = record { state = refl; said = e; count = let n : length out ≡ 0 = ap length e in omega arith }
 
-pub taken-room : (s : State) (chunk out₀ out : List ℕ) (step : Step) (i : ℕ) → length chunk * 42 ≤ length out₀ → i < length chunk → Taken s chunk out₀ out step i → step.count + 42 ≤ length out
-taken-room s chunk out₀ out step i r h t =
-    let a : step.count ≤ i * 42 = t.count in
-    let b : length out ≡ length out₀ = t.long in
+pub taken-room : (room : ℕ) (s : State) (chunk out : List ℕ) (now : State) (i : ℕ) → length chunk * 42 ≤ room → i < length chunk → Taken s chunk out now i → length out + 42 ≤ room
+taken-room room s chunk out now i r h t =
+    let a : length out ≤ i * 42 = t.count in
     omega arith
 
-pub taken_more : (s : State) (chunk out₀ out out' : List ℕ) (step step' : Step) (i : ℕ) → length chunk * 42 ≤ length out₀ → i < length chunk → Taken s chunk out₀ out step i
-    → Stepped step.state (get_or chunk i 0) out step.count step' out' → Taken s chunk out₀ out' step' (i + 1)
-taken_more s chunk out₀ out out' step step' i r h t p =
+pub taken_more : (s : State) (chunk out out' : List ℕ) (now now' : State) (i : ℕ) → i < length chunk → Taken s chunk out now i
+    → Stepped now (get_or chunk i 0) out now' out' → Taken s chunk out' now' (i + 1)
+taken_more s chunk out out' now now' i h t p =
     let b = get_or chunk i 0 in
     let xs = take i chunk in
     let e : take (i + 1) chunk ≡ xs ++ (b ∷ []) = ap (λ (n : ℕ). take n chunk) (add-one i) ∙ take-suc chunk i 0 h in
-    let said' = said_at step.state b in
-    let room : step.count + 42 ≤ length out = taken-room s chunk out₀ out step i r h t in
-    let short : length said' ≤ 42 = said-long step.state b in
-    let fit : step.count + length said' ≤ length out = omega arith in
-    let ends : step'.count ≡ step.count + length said' = p.said.ends in
-    let count : step.count ≤ i * 42 = t.count in
+    let short : length (said_at now b) ≤ 42 = said-long now b in
+    let long : length out' ≡ length out + length (said_at now b) = ap length p.said ∙ length-append out (said_at now b) in
+    let count : length out ≤ i * 42 = t.count in
     record {
       state = p.state ∙ ap (λ (x : State). after_byte x b) t.state ∙ sym (after_one s xs b) ∙ ap (after_bytes s) (sym e);
       said =
-          ap₂ take ends p.said.holds
-          ∙ take_put out step.count said' (omega arith)
+          p.said
           ∙ ap₂ (λ (x y : List ℕ). x ++ y) t.said (ap (λ (x : State). said_at x b) t.state)
           ∙ sym (said-one s xs b)
           ∙ ap (said_bytes s) (sym e);
       count = omega arith;
-      long = ap length p.said.holds ∙ length-put out step.count said' fit ∙ t.long;
-      index = omega arith;
     }
 
-pub taken-all : (s : State) (chunk out₀ out : List ℕ) (step : Step) (i : ℕ) → length chunk * 42 ≤ length out₀ → length chunk ≤ i → Taken s chunk out₀ out step i → Ran s chunk step out
-taken-all s chunk out₀ out step i r h t =
+pub taken-all : (s : State) (chunk out : List ℕ) (now : State) (i : ℕ) → length chunk ≤ i → Taken s chunk out now i → Ran s chunk now out
+taken-all s chunk out now i h t =
     let e : take i chunk ≡ chunk = take_all i chunk h in
-    let a : step.count ≤ i * 42 = t.count in
-    let b : length out ≡ length out₀ = t.long in
-    let k : i ≤ length chunk = t.index in
-    record { state = t.state ∙ ap (after_bytes s) e; said = t.said ∙ ap (said_bytes s) e; within = omega arith }
+    record { state = t.state ∙ ap (after_bytes s) e; said = t.said ∙ ap (said_bytes s) e }

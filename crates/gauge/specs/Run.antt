@@ -1,5 +1,5 @@
 -- What the program answers to its input, byte by byte.
-use Rattle.std.specs.Prelude.{ℕ, ◌≤◌, cond, List, [], ◌∷◌, ◌++◌, ◌≡◌, length, take, eqb}
+use Rattle.std.specs.Prelude.{ℕ, cond, List, [], ◌∷◌, ◌++◌, ◌≡◌, eqb}
 use Rattle.meter.specs.Gauge.{new_meter, ticked_meter, reading_of}
 use Rattle.meter.specs.declared.Meter.{Meter}
 use Rattle.gauge.specs.Line.{line_of, with_byte}
@@ -7,7 +7,6 @@ use Rattle.gauge.specs.Text.{reading_text, bad_text, newline, Placed}
 use Rattle.gauge.specs.declared.line.Line.{Line}
 use Rattle.gauge.specs.declared.line.Line.TheVariants.{Empty, Value, Bad}
 use Rattle.gauge.specs.declared.run.State.{State}
-use Rattle.gauge.specs.declared.run.Step.{Step}
 
 -- the meter after a line: "a line that isn't a whole number .. changes nothing"
 abbrev pub after_line : Meter → Line → Meter
@@ -35,9 +34,9 @@ after_byte s b = cond (eqb b 10) (state_at Empty (after_line s.meter s.line)) (s
 unfoldable pub said_at : State → ℕ → List ℕ
 said_at s b = cond (eqb b 10) (answer_text (after_line s.meter s.line) s.line) []
 
-pub record Stepped (s : State) (b : ℕ) (before : List ℕ) (count : ℕ) (r : Step) (after : List ℕ) : Type 0 where
-  pub state : r.state ≡ after_byte s b
-  pub said : Placed (said_at s b) before count r.count after
+pub record Stepped (s : State) (b : ℕ) (before : List ℕ) (r : State) (after : List ℕ) : Type 0 where
+  pub state : r ≡ after_byte s b
+  pub said : Placed (said_at s b) before after
 
 -- ---- the bytes of a chunk, and of the whole input
 
@@ -49,11 +48,10 @@ unfoldable pub said_bytes : State → List ℕ → List ℕ
 said_bytes s [] = []
 said_bytes s (b ∷ bytes) = said_at s b ++ said_bytes (after_byte s b) bytes
 
--- the answers stand at the start of the buffer
-pub record Ran (s : State) (bytes : List ℕ) (r : Step) (after : List ℕ) : Type 0 where
-  pub state : r.state ≡ after_bytes s bytes
-  pub said : take r.count after ≡ said_bytes s bytes
-  pub within : r.count ≤ length after
+-- the text is the answers
+pub record Ran (s : State) (bytes : List ℕ) (r : State) (after : List ℕ) : Type 0 where
+  pub state : r ≡ after_bytes s bytes
+  pub said : after ≡ said_bytes s bytes
 
 -- "the last may lack its newline"; after the last newline there is no line
 abbrev pub rest_of : Meter → Line → List ℕ

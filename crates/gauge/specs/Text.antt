@@ -1,6 +1,6 @@
 -- "prints the reading's name and, a space before each, its floats' bits in sixteen lower-case hex digits"
-use Rattle.std.specs.Prelude.{ℕ, ◌+◌, List, [], ◌∷◌, ◌++◌, ◌≡◌, length, Float}
-use Rattle.wire.specs.Wire.{put, be64}
+use Rattle.std.specs.Prelude.{ℕ, List, [], ◌∷◌, ◌++◌, ◌≡◌, Float}
+use Rattle.wire.specs.Wire.{be64}
 use Rattle.script.specs.Hex.{hex_digits}
 use Rattle.meter.specs.Words.{level_bits}
 use Rattle.meter.specs.declared.gauge.Reading.{Reading}
@@ -23,7 +23,6 @@ bad_text = 98 ∷ 97 ∷ 100 ∷ []
 abbrev pub newline : List ℕ
 newline = 10 ∷ []
 
--- the buffer has these bytes from a place on, and next is the place after them
-pub record Placed (bytes before : List ℕ) (at next : ℕ) (after : List ℕ) : Type 0 where
-  pub ends : next ≡ at + length bytes
-  pub holds : after ≡ put before at bytes
+-- after is the text before with these bytes behind it
+abbrev pub Placed : List ℕ → List ℕ → List ℕ → Type 0
+Placed bytes before after = after ≡ before ++ bytes

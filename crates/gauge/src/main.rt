@@ -5,32 +5,20 @@
 // and writes them. Nothing grows with a line's length or with their number.
 #![tactic(auto)]
 
-ghost use Rattle.std.specs.Prelude.{◌≡◌, length};
-
 mod input;
 mod line;
 mod run;
 mod text;
 
+use script::text::Text;
 use std::process::ExitCode;
 
 // Room for the answers to a chunk of newlines alone, of 42 bytes each.
-fn new_out() -> [u8; 172032]
-    ensures { 172032 ≡ length result }
-{
-    [0; 172032]
-}
-
-// A chunk of the input, of zeros.
-fn new_chunk() -> [u8; 4096]
-    ensures { 4096 ≡ length result }
-{
-    [0; 4096]
-}
+const ROOM: usize = 172032;
 
 fn main(rt: HostRuntime) -> ExitCode {
-    let mut chunk = new_chunk();
-    let mut out = new_out();
+    let mut chunk = [0u8; 4096];
+    let mut out: Text<ROOM> = Text::new();
     let ran = input::run_input(
         &mut rt.stdin(),
         &mut rt.stdout(),

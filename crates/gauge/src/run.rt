@@ -6,19 +6,13 @@ ghost use Rattle.gauge.specs.Run.{after_line, answer_text, rest_text, Stepped, R
 use super::line::{Line, with_byte};
 use super::text::{put_bad_line, put_reading_line};
 use meter::Meter;
+use script::text::Text;
 
 // The bytes of the line so far, and the meter after the lines before it.
 #[derive(Drop)]
 pub struct State {
     pub line: Line,
     pub meter: Meter,
-}
-
-// A state, and how many bytes of answers stand in the buffer.
-#[derive(Drop)]
-pub struct Step {
-    pub state: State,
-    pub count: usize,
 }
 
 // Before the first byte.
@@ -49,71 +43,63 @@ fn after_line(m: Meter, line: Line) -> Meter
     }
 }
 
-// Puts the answer to a line, where m is the meter after it.
-fn put_answer(m: Meter, line: Line, out: &mut [u8], at: usize) -> usize
-    requires { at + 42 ≤ length out.old }
-    ensures { Placed (answer_text m line) out.old at result out.new }
+// Appends the answer to a line, where m is the meter after it.
+fn put_answer<const N: usize>(m: Meter, line: Line, out: &mut Text<N>)
+    requires { length out.old + 42 ≤ N }
+    ensures { Placed (answer_text m line) out.old out.new }
 {
     match line {
-        Line::Value(_) => put_reading_line(meter::reading(m), out, at),
-        Line::Empty => put_bad_line(out, at),
-        Line::Bad => put_bad_line(out, at),
+        Line::Value(_) => put_reading_line(meter::reading(m), out),
+        Line::Empty => put_bad_line(out),
+        Line::Bad => put_bad_line(out),
     }
 }
 
-// Takes one byte. Where it ends a line, the answer stands behind the first `count` bytes of the buffer.
-fn take_byte(state: State, b: u8, out: &mut [u8], count: usize) -> Step
-    requires { count + 42 ≤ length out.old }
-    ensures { Stepped state b out.old count result out.new }
+// Takes one byte. Where it ends a line, the answer is appended.
+fn take_byte<const N: usize>(state: State, b: u8, out: &mut Text<N>) -> State
+    requires { length out.old + 42 ≤ N }
+    ensures { Stepped state b out.old result out.new }
 {
     let line = state.line;
     let meter = state.meter;
     if b == b'\n' {
         let next = after_line(meter, line);
-        let end = put_answer(next, line, out, count);
-        return Step {
-            state: State {
-                line: Line::Empty,
-                meter: next,
-            },
-            count: end,
+        put_answer(next, line, out);
+        return State {
+            line: Line::Empty,
+            meter: next,
         };
     }
-    Step {
-        state: State {
-            line: with_byte(line, b),
-            meter,
-        },
-        count,
+    State {
+        line: with_byte(line, b),
+        meter,
     }
 }
 
-// Takes every byte of a chunk. The answers to the lines that it ends stand at the start of the buffer.
-pub fn take_chunk(state: State, chunk: &[u8], out: &mut [u8]) -> Step
-    requires { length chunk.now * 42 ≤ length out.old }
+// Takes every byte of a chunk. The text is then the answers to the lines that it ends.
+pub fn take_chunk<const N: usize>(state: State, chunk: &[u8], out: &mut Text<N>) -> State
+    requires { length chunk.now * 42 ≤ N }
     ensures { Ran state chunk.now result out.new }
 {
-    let mut step = Step { state, count: 0 };
-    let mut i = 0;
-    while i < chunk.len() {
-        let current = step.state;
-        let count = step.count;
-        step = take_byte(current, chunk[i], out, count);
-        i += 1;
+    let mut now = state;
+    out.clear();
+    for &b in chunk {
+        now = take_byte(now, b, out);
     }
-    step
+    now
 }
 
-// Puts the answer to the last line, where it lacks its newline, and answers how many bytes it has.
-pub fn take_rest(state: State, out: &mut [u8]) -> usize
-    requires { 42 ≤ length out.old }
-    ensures { Placed (rest_text state) out.old 0 result out.new }
+// Puts the answer to the last line, where it lacks its newline, in place of the text.
+pub fn take_rest<const N: usize>(state: State, out: &mut Text<N>)
+    requires { 42 ≤ N }
+    ensures { out.new ≡ rest_text state }
 {
     let line = state.line;
     let meter = state.meter;
+    out.clear();
     match line {
-        Line::Empty => 0,
-        Line::Value(_) => put_answer(after_line(meter, line), line, out, 0),
-        Line::Bad => put_answer(after_line(meter, line), line, out, 0),
+        Line::Empty => (),
+        Line::Value(_) => put_answer(after_line(meter, line), line, out),
+        Line::Bad => put_answer(after_line(meter, line), line, out),
     }
 }

@@ -13,7 +13,7 @@ use Rattle.wire.proofs.Laws.{take_put}
 use Rattle.ddp.specs.Place.{fits, placed}
 use Rattle.holding.specs.Pending.{room_bytes, needed_of, is_short, room_after}
 use Rattle.holding.proofs.Pending.{needed_bounds}
-use Rattle.holding.proofs.Rooms.{take-held, room-rest, room-over}
+use Rattle.holding.proofs.Rooms.{take-held, room_rest, room_over}
 
 -- what fits a room is put there
 put-fits : (room : List ℕ) (at : ℕ) (xs : List ℕ) → at + length xs ≤ length room → placed room at xs ≡ put room at xs
@@ -41,7 +41,7 @@ module _ (room : List ℕ) (k : ℕ) where
       where
         go : Dec (n < length h) → take n (room_after h input room) ≡ take n (h ++ input)
         go (yes l) =
-            ap (take n) (sym (room-over h input (length h) n refl refl more (omega (arith, l)) room))
+            ap (take n) (sym (room_over h input (length h) n refl refl more (omega (arith, l)) room))
             ∙ sym (take-take n k room (omega (arith, l, held_in_lem.0)))
             ∙ sym (take-append-le n h input (omega (arith, l)))
         go (no l) =
@@ -49,7 +49,7 @@ module _ (room : List ℕ) (k : ℕ) where
             let many : length (take c input) ≡ c = length-take-le c input (omega (arith, more, l)) in
             let sum : length h + c ≡ n = omega (arith, l) in
             let inside : length h + length (take c input) ≤ length room = omega (arith, many, sum, long, (needed_bounds (h ++ input)).1) in
-            ap (take n) (sym (room-rest h input (length h) n refl refl more some room))
+            ap (take n) (sym (room_rest h input (length h) n refl refl more some room))
             ∙ ap (take n) (put-fits room (length h) (take c input) inside)
             ∙ ap (λ (m : ℕ). take m (put room (length h) (take c input))) (let e : n ≡ length h + length (take c input) = omega (arith, many, sum) in e)
             ∙ take_put room (length h) (take c input) held_in_lem.1

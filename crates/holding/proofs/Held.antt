@@ -15,19 +15,17 @@ use Rattle.wire.proofs.Laws.{take_put}
 use Rattle.ddp.specs.Place.{fits, placed}
 use Rattle.ddp.specs.Segment.{segment_read}
 use Rattle.ddp.specs.declared.segment.SegmentRead.{SegmentRead}
-use Rattle.ddp.specs.declared.segment.SegmentRead.TheVariants.{Wait as SegmentWait, Refused as SegmentRefused, Tagged as TaggedSegment, Untagged as UntaggedSegment}
+use Rattle.ddp.specs.declared.segment.SegmentRead.TheVariants.{Wait as SegmentWait, Tagged as TaggedSegment, Untagged as UntaggedSegment}
 use Rattle.memory.specs.declared.window.Window.{Window}
 use Rattle.rdmap.specs.Message.{queue_of}
 use Rattle.rdmap.specs.Phase.{readiness}
 use Rattle.rdmap.specs.Stream.{holding, no_stream}
 use Rattle.rdmap.specs.declared.message.Verdict.{Verdict}
-use Rattle.rdmap.specs.declared.message.Verdict.TheVariants.{Refused as VerdictRefused, Nothing, Write, SendMore, SendLast, Read, Terminate}
-use Rattle.rdmap.specs.declared.phase.Readiness.{Readiness}
-use Rattle.rdmap.specs.declared.phase.Readiness.TheVariants.{Ready, NotReady}
+use Rattle.rdmap.specs.declared.message.Verdict.TheVariants.{Nothing, Write, SendMore, SendLast, Read, Terminate}
 use Rattle.rdmap.specs.declared.stream.Stream.{Stream}
 use Rattle.domain.specs.Domain.{stream_at, domain_received_bytes, metered_of, lifted}
 use Rattle.arrival.specs.Parts.{parts_applied, parts_verdict, parts_judged, parts_placed, parts_unchanged, parts_answered, parts_when, parts_bytes_when, parts_received, parts_received_bytes}
-use Rattle.arrival.specs.declared.Answer.TheVariants.{Wait, Refused}
+use Rattle.arrival.specs.declared.Answer.TheVariants.{Wait}
 use Rattle.domain.specs.declared.Domain.{Domain}
 use Rattle.arrival.specs.declared.parts.PartsReceived.{PartsReceived}
 use Rattle.cuts.specs.Received.{Short}
@@ -36,6 +34,10 @@ use Rattle.holding.proofs.Pending.{Few, short_few, Decided, enough_judges}
 use Rattle.holding.proofs.Pending.Few.{under, part}
 use Rattle.holding.proofs.Rooms.{room-length, take-held}
 use Rattle.holding.specs.Offer.{is_open, parts_held_of, parts_offered, parts_offered_bytes, held_of, stream_room, domain_offered, domain_offered_bytes, domain_offered_held}
+use Rattle.std.specs.Prelude.{Err, Ok, Result, ⊤}
+use Rattle.ddp.specs.declared.refusal.Refusal.{Refusal}
+use Rattle.wire.specs.declared.refusal.LocalRefusal.{LocalRefusal}
+use Rattle.wire.specs.declared.refusal.LocalRefusal.TheVariants.{NotOpen, OutOfRange, StreamEnded}
 
 -- ---- bytes that are waited on
 
@@ -48,73 +50,73 @@ few_begins : (p : List ℕ) → Few p → Short p
 few_begins p (under h) = record { fits = omega (arith, h); begins = λ g. absurd (omega (arith, h, g)) }
 few_begins p (part k) = record { fits = omega (arith, k.less, k.low); begins = λ g. (k.low, k.less) }
 
-pub waited : (crc : Bool) (p : List ℕ) (n : ℕ) → segment_read crc p ≡ SegmentWait n → Waited p
+pub waited : (crc : Bool) (p : List ℕ) (n : ℕ) → segment_read crc p ≡ Ok (SegmentWait n) → Waited p
 waited crc p n e = go (is_short p) refl
   where
     go : (b : Bool) → is_short p ≡ b → Waited p
     go true q = record { short = q; begins = few_begins p (short_few p q) }
     go false q =
         absurd
-        (subst Decided (ap (λ (x : SegmentRead). (parts_answered no_stream (parts_judged [] 0 no_stream p x)).answer) e)
+        (subst Decided (ap (λ (x : Result SegmentRead Refusal). (parts_answered no_stream (parts_judged [] 0 no_stream p x)).answer) e)
         (enough_judges (record { start = 0; end = 0 }) [] 0 no_stream crc [] p q))
 
 -- ---- what an offer comes to
 
 -- a stream that is not ready is not open, and one that is ready is
-pub shut_phase : (s : Stream) (k : ℕ) → readiness s.phase ≡ NotReady k → is_open s ≡ false
+pub shut_phase : (s : Stream) (k : LocalRefusal) → readiness s.phase ≡ Err k → is_open s ≡ false
 shut_phase s k = go (eqb s.phase.state 0) refl (eqb s.phase.state 1) refl
   where
     go :
         (a : Bool) → eqb s.phase.state 0 ≡ a → (b : Bool) → eqb s.phase.state 1 ≡ b →
-        pick a (NotReady 3) (pick b Ready (NotReady 5)) ≡ NotReady k → b ≡ false
+        ◌≡◌ {A = Result ⊤ LocalRefusal} (pick a (Err NotOpen) (pick b (Ok tt) (Err StreamEnded))) (Err k) → b ≡ false
     go a p false q e = refl
     go true p true q e = absurd (omega (arith, eqb-true s.phase.state 0 p, eqb-true s.phase.state 1 q))
     go false p true q e = absurd (let no : ◌≡◌ {A = ℕ} 0 1 = cc in omega arith)
 
-pub ready_phase : (s : Stream) → readiness s.phase ≡ Ready → is_open s ≡ true
+pub ready_phase : (s : Stream) → readiness s.phase ≡ (Ok tt) → is_open s ≡ true
 ready_phase s = go (eqb s.phase.state 0) (eqb s.phase.state 1)
   where
-    go : (a b : Bool) → pick a (NotReady 3) (pick b Ready (NotReady 5)) ≡ Ready → b ≡ true
+    go : (a b : Bool) → ◌≡◌ {A = Result ⊤ LocalRefusal} (pick a (Err NotOpen) (pick b (Ok tt) (Err StreamEnded))) (Ok tt) → b ≡ true
     go a true e = refl
     go true false e = absurd (let no : ◌≡◌ {A = ℕ} 0 1 = cc in omega arith)
     go false false e = absurd (let no : ◌≡◌ {A = ℕ} 0 1 = cc in omega arith)
 
 -- a judged FPDU is taken or ends the stream
-judged_held : (s t : Stream) (pending total : ℕ) (v : Verdict) → parts_held_of s pending (parts_applied t total v) ≡ parts_applied t total v
+judged_held : (s t : Stream) (pending total : ℕ) (v : Result Verdict Refusal) → parts_held_of s pending (parts_applied t total v) ≡ parts_applied t total v
 unfolding parts_applied
-judged_held s t pending total (VerdictRefused r) = refl
-judged_held s t pending total Nothing = refl
-judged_held s t pending total (Write at) = refl
-judged_held s t pending total (SendMore at opcode taken) = refl
-judged_held s t pending total (SendLast at opcode start len inv) = refl
-judged_held s t pending total (Read r) = refl
-judged_held s t pending total (Terminate layer etype code) = refl
+judged_held s t pending total (Err r) = refl
+judged_held s t pending total (Ok Nothing) = refl
+judged_held s t pending total (Ok (Write at)) = refl
+judged_held s t pending total (Ok (SendMore at opcode taken)) = refl
+judged_held s t pending total (Ok (SendLast at opcode start len inv)) = refl
+judged_held s t pending total (Ok (Read r)) = refl
+judged_held s t pending total (Ok (Terminate layer etype code)) = refl
 
 -- by cases: a stream that is not open refuses it; one that is open waits, and then holds all of the pending bytes, which are short; or judges
 -- them with nothing held
 pub offered-by :
     (P : PartsReceived → Type 0) (ws : List Window) (number : ℕ) (s : Stream) (held input : List ℕ) →
-    ((k : ℕ) → is_open s ≡ false → P (parts_unchanged s (Refused k))) →
-    ((n : ℕ) → is_open s ≡ true → Waited (held ++ input) → P (parts_unchanged (holding s (length held + length input)) (Wait n))) →
-    ((total : ℕ) (v : Verdict) → is_open s ≡ true → P (parts_applied (holding s 0) total v)) →
+    ((k : LocalRefusal) → is_open s ≡ false → P (parts_unchanged s (Err k))) →
+    ((n : ℕ) → is_open s ≡ true → Waited (held ++ input) → P (parts_unchanged (holding s (length held + length input)) (Ok (Wait n)))) →
+    ((total : ℕ) (v : Result Verdict Refusal) → is_open s ≡ true → P (parts_applied (holding s 0) total v)) →
     P (parts_offered ws number s held input)
 unfolding parts_offered parts_received
 offered-by P ws number s held input shut waits judges = when (readiness s.phase) refl
   where
-    judged : (total : ℕ) (v : Verdict) → is_open s ≡ true → P (parts_held_of s (length held + length input) (parts_applied (holding s 0) total v))
+    judged : (total : ℕ) (v : Result Verdict Refusal) → is_open s ≡ true → P (parts_held_of s (length held + length input) (parts_applied (holding s 0) total v))
     judged total v o = subst P (sym (judged_held s (holding s 0) (length held + length input) total v)) (judges total v o)
 
     read :
-        is_open s ≡ true → (x : SegmentRead) → segment_read s.framing.crc (held ++ input) ≡ x →
+        is_open s ≡ true → (x : Result SegmentRead Refusal) → segment_read s.framing.crc (held ++ input) ≡ x →
         P (parts_held_of s (length held + length input) (parts_answered (holding s 0) (parts_judged ws number (holding s 0) (held ++ input) x)))
-    read o (SegmentWait n) e = waits n o (waited s.framing.crc (held ++ input) n e)
-    read o (SegmentRefused r) e = judged 0 (VerdictRefused r) o
-    read o (TaggedSegment total h start len) e = judged total (parts_verdict ws number (holding s 0) (held ++ input) (TaggedSegment total h start len)) o
-    read o (UntaggedSegment total h start len) e = judged total (parts_verdict ws number (holding s 0) (held ++ input) (UntaggedSegment total h start len)) o
+    read o (Ok (SegmentWait n)) e = waits n o (waited s.framing.crc (held ++ input) n e)
+    read o (Err r) e = judged 0 (Err r) o
+    read o (Ok (TaggedSegment total h start len)) e = judged total (parts_verdict ws number (holding s 0) (held ++ input) (Ok (TaggedSegment total h start len))) o
+    read o (Ok (UntaggedSegment total h start len)) e = judged total (parts_verdict ws number (holding s 0) (held ++ input) (Ok (UntaggedSegment total h start len))) o
 
-    when : (r : Readiness) → readiness s.phase ≡ r → P (parts_held_of s (length held + length input) (parts_when ws number (holding s 0) (held ++ input) r))
-    when Ready e = read (ready_phase s e) (segment_read s.framing.crc (held ++ input)) refl
-    when (NotReady k) e = shut k (shut_phase s k e)
+    when : (r : Result ⊤ LocalRefusal) → readiness s.phase ≡ r → P (parts_held_of s (length held + length input) (parts_when ws number (holding s 0) (held ++ input) r))
+    when (Ok tt) e = read (ready_phase s e) (segment_read s.framing.crc (held ++ input)) refl
+    when (Err k) e = shut k (shut_phase s k e)
 
 -- so one that is not open stays as it was
 shut_stays : (ws : List Window) (number : ℕ) (s : Stream) (held input : List ℕ) → is_open s ≡ false → (parts_offered ws number s held input).stream ≡ s
@@ -148,15 +150,15 @@ room_starts held input room short l e =
 abbrev pub Empties : PartsReceived → Type 0
 Empties r = (r.stream.framing.held ≡ 0) × ((held input : List ℕ) → held_of held input r.answer ≡ [])
 
-pub judged_empties : (s : Stream) (total : ℕ) (v : Verdict) → Empties (parts_applied (holding s 0) total v)
+pub judged_empties : (s : Stream) (total : ℕ) (v : Result Verdict Refusal) → Empties (parts_applied (holding s 0) total v)
 unfolding parts_applied
-judged_empties s total (VerdictRefused r) = (refl, λ h i. refl)
-judged_empties s total Nothing = (refl, λ h i. refl)
-judged_empties s total (Write at) = (refl, λ h i. refl)
-judged_empties s total (SendMore at opcode taken) = (refl, λ h i. refl)
-judged_empties s total (SendLast at opcode start len inv) = (refl, λ h i. refl)
-judged_empties s total (Read r) = (refl, λ h i. refl)
-judged_empties s total (Terminate layer etype code) = (refl, λ h i. refl)
+judged_empties s total (Err r) = (refl, λ h i. refl)
+judged_empties s total (Ok Nothing) = (refl, λ h i. refl)
+judged_empties s total (Ok (Write at)) = (refl, λ h i. refl)
+judged_empties s total (Ok (SendMore at opcode taken)) = (refl, λ h i. refl)
+judged_empties s total (Ok (SendLast at opcode start len inv)) = (refl, λ h i. refl)
+judged_empties s total (Ok (Read r)) = (refl, λ h i. refl)
+judged_empties s total (Ok (Terminate layer etype code)) = (refl, λ h i. refl)
 
 -- after an offer the room starts with the bytes that the stream holds
 pub room-holds :
@@ -179,12 +181,12 @@ room-holds ws number s input room size =
 -- the same, of the stream of a slot
 pub domain-room-holds :
     (d : Domain) (number slot : ℕ) → slot ≤ 3 → (input room : List ℕ) → length room ≡ room_bytes →
-    take (stream_at (domain_offered d number slot (take (stream_at d slot).framing.held room) input).domain slot).framing.held
+    take (stream_at (domain_offered d number slot (take (stream_at d slot).framing.held room) input).1 slot).framing.held
     (stream_room (stream_at d slot) (take (stream_at d slot).framing.held room) input room)
     ≡ domain_offered_held d number slot (take (stream_at d slot).framing.held room) input
 unfolding domain_offered domain_offered_held
 domain-room-holds d number slot l input room size =
-    subst (λ (b : Bool). take (stream_at (pick b (metered_of (segment_read s.framing.crc (h ++ input)) (lifted d slot r)) (record { answer = Refused 1; domain = d })).domain slot).framing.held (stream_room s h input room) ≡ held_of h input (pick b (metered_of (segment_read s.framing.crc (h ++ input)) (lifted d slot r)) (record { answer = Refused 1; domain = d })).answer)
+    subst (λ (b : Bool). take (stream_at (pick b (metered_of (segment_read s.framing.crc (h ++ input)) (lifted d slot r)) (Err OutOfRange, d)).1 slot).framing.held (stream_room s h input room) ≡ held_of h input (pick b (metered_of (segment_read s.framing.crc (h ++ input)) (lifted d slot r)) (Err OutOfRange, d)).0)
     (sym (le-leb slot 3 l)) (go (dec_lt slot (length d.streams)))
   where
     s : Stream
@@ -216,15 +218,15 @@ offered-bytes d number slot held input bytes =
     s = stream_at d slot
 
     read :
-        (x : SegmentRead) →
+        (x : Result SegmentRead Refusal) →
         parts_placed d.part d.windows number (holding s 0) (held ++ input) bytes x ≡ parts_placed d.part d.windows number s (held ++ input) bytes x
-    read (SegmentWait n) = refl
-    read (SegmentRefused r) = refl
-    read (TaggedSegment total h start len) = refl
-    read (UntaggedSegment total h start len) = refl
+    read (Ok (SegmentWait n)) = refl
+    read (Err r) = refl
+    read (Ok (TaggedSegment total h start len)) = refl
+    read (Ok (UntaggedSegment total h start len)) = refl
 
     when :
-        (r : Readiness) →
+        (r : Result ⊤ LocalRefusal) →
         parts_bytes_when d.part d.windows number (holding s 0) (held ++ input) bytes r ≡ parts_bytes_when d.part d.windows number s (held ++ input) bytes r
-    when Ready = read (segment_read s.framing.crc (held ++ input))
-    when (NotReady k) = refl
+    when (Ok tt) = read (segment_read s.framing.crc (held ++ input))
+    when (Err k) = refl

@@ -22,7 +22,7 @@ use Rattle.ddp.specs.declared.segment.SegmentRead.TheVariants.{Wait as SegmentWa
 use Rattle.rdmap.specs.declared.stream.Stream.{Stream}
 use Rattle.arrival.specs.Parts.{parts_applied, parts_judged, parts_placed, parts_answered, parts_unchanged}
 use Rattle.arrival.specs.declared.Answer.{Answer}
-use Rattle.arrival.specs.declared.Answer.TheVariants.{Wait, Taken, Ended, Refused}
+use Rattle.arrival.specs.declared.Answer.TheVariants.{Wait, Taken, Ended}
 use Rattle.arrival.specs.declared.parts.PartsReceived.{PartsReceived}
 use Rattle.arrival.proofs.Inside.{segment_inside}
 use Rattle.arrival.proofs.Inside.{ends as end_of}
@@ -30,6 +30,9 @@ use Rattle.cuts.proofs.Read.{size_of, Long, Begun, Whole, Kind, kind_of, few_rea
 use Rattle.cuts.proofs.Read.Kind.{few, long, begun, whole}
 use Rattle.cuts.proofs.Received.{Judges, same_payload, whole_judges}
 use Rattle.holding.specs.Pending.{room_bytes, needed_of, is_short}
+use Rattle.std.specs.Prelude.{Err, Ok, Result}
+use Rattle.ddp.specs.declared.refusal.Refusal.{Refusal}
+use Rattle.wire.specs.declared.refusal.LocalRefusal.{LocalRefusal}
 
 -- ---- how many bytes are needed, by the kind
 
@@ -93,12 +96,12 @@ module _ (p : List ℕ) where
       go (begun k) = absurd (omega (arith, more, needed-size k.begun k.low, k.less))
       go (whole k) = all k
 
-  pub short_read : (crc : Bool) → is_short p ≡ true → segment_read crc p ≡ SegmentWait (needed_of p)
+  pub short_read : (crc : Bool) → is_short p ≡ true → segment_read crc p ≡ Ok (SegmentWait (needed_of p))
   short_read crc e = go (short_few e)
     where
-      go : Few → segment_read crc p ≡ SegmentWait (needed_of p)
-      go (under h) = few_read crc p h ∙ ap SegmentWait (sym (needed_few h))
-      go (part k) = begun_read crc p k ∙ ap SegmentWait (sym (needed-size k.begun k.low))
+      go : Few → segment_read crc p ≡ Ok (SegmentWait (needed_of p))
+      go (under h) = few_read crc p h ∙ ap (λ (n : ℕ). Ok (SegmentWait n)) (sym (needed_few h))
+      go (part k) = begun_read crc p k ∙ ap (λ (n : ℕ). Ok (SegmentWait n)) (sym (needed-size k.begun k.low))
 
   -- enough: the segment is that of the needed bytes
   pub enough_read : (crc : Bool) → is_short p ≡ false → segment_read crc (take (needed_of p) p) ≡ segment_read crc p
@@ -115,17 +118,17 @@ module _ (p : List ℕ) where
 -- ---- what an open stream makes of them
 
 -- an FPDU was taken, or the stream ended
-abbrev pub Decided : Answer → Type 0
-Decided (Wait n) = ⊥
-Decided (Taken total e) = Unit {0}
-Decided (Ended r) = Unit {0}
-Decided (Refused k) = ⊥
+abbrev pub Decided : Result Answer LocalRefusal → Type 0
+Decided (Ok (Wait n)) = ⊥
+Decided (Ok (Taken total e)) = Unit {0}
+Decided (Ok (Ended r)) = Unit {0}
+Decided (Err k) = ⊥
 
-judged_decided : (total : ℕ) (a : Answer) → Judges total a → Decided a
-judged_decided total (Wait n) j = j
-judged_decided total (Taken m e) j = tt
-judged_decided total (Ended r) j = tt
-judged_decided total (Refused k) j = j
+judged_decided : (total : ℕ) (a : Result Answer LocalRefusal) → Judges total a → Decided a
+judged_decided total (Ok (Wait n)) j = j
+judged_decided total (Ok (Taken m e)) j = tt
+judged_decided total (Ok (Ended r)) j = tt
+judged_decided total (Err k) j = j
 
 module _ (part : Part) (ws : List Window) (number : ℕ) (s : Stream) (crc : Bool) (bytes p : List ℕ) where
   abbrev pub answered_of : List ℕ → PartsReceived
@@ -135,10 +138,10 @@ module _ (part : Part) (ws : List Window) (number : ℕ) (s : Stream) (crc : Boo
   placed_of q = parts_placed part ws number s q bytes (segment_read crc q)
 
   -- too few: it waits, and nothing changes
-  pub short_waits : is_short p ≡ true → (answered_of p ≡ parts_unchanged s (Wait (needed_of p))) × (placed_of p ≡ bytes)
+  pub short_waits : is_short p ≡ true → (answered_of p ≡ parts_unchanged s (Ok (Wait (needed_of p)))) × (placed_of p ≡ bytes)
   short_waits e =
       let r = short_read p crc e in
-      (ap (λ (x : SegmentRead). parts_answered s (parts_judged ws number s p x)) r, ap (parts_placed part ws number s p bytes) r)
+      (ap (λ (x : Result SegmentRead Refusal). parts_answered s (parts_judged ws number s p x)) r, ap (parts_placed part ws number s p bytes) r)
 
   -- enough: an FPDU is taken, or ends the stream
   pub enough_judges : is_short p ≡ false → Decided (answered_of p).answer
@@ -146,11 +149,11 @@ module _ (part : Part) (ws : List Window) (number : ℕ) (s : Stream) (crc : Boo
   enough_judges e = go (long-enough p e)
     where
       go : Enough p → Decided (answered_of p).answer
-      go (over k) = subst Decided (sym (ap (λ (x : SegmentRead). (parts_answered s (parts_judged ws number s p x)).answer) (long_read crc p k))) tt
+      go (over k) = subst Decided (sym (ap (λ (x : Result SegmentRead Refusal). (parts_answered s (parts_judged ws number s p x)).answer) (long_read crc p k))) tt
       go (all k) = judged_decided (size_of p) (answered_of p).answer (whole_judges ws number s p k crc)
 
   -- so it waits where they are too few, and nowhere else
-  pub waits_short : (n : ℕ) → (answered_of p).answer ≡ Wait n → is_short p ≡ true
+  pub waits_short : (n : ℕ) → (answered_of p).answer ≡ Ok (Wait n) → is_short p ≡ true
   waits_short n w = go (is_short p) refl
     where
       go : (b : Bool) → is_short p ≡ b → b ≡ true
@@ -165,11 +168,11 @@ module _ (part : Part) (ws : List Window) (number : ℕ) (s : Stream) (crc : Boo
       go false e = refl
 
   -- and a local refusal it never answers
-  pub never_refused : (k : ℕ) → (answered_of p).answer ≡ Refused k → ⊥
+  pub never_refused : (k : LocalRefusal) → (answered_of p).answer ≡ Err k → ⊥
   never_refused k w = go (is_short p) refl
     where
       go : (b : Bool) → is_short p ≡ b → ⊥
-      go true e = let r : Wait (needed_of p) ≡ Refused k = sym (ap (λ (r : PartsReceived). r.answer) (short_waits e).0) ∙ w in let no : ◌≡◌ {A = ℕ} 0 1 = cc in omega arith
+      go true e = let r : Ok (Wait (needed_of p)) ≡ Err k = sym (ap (λ (r : PartsReceived). r.answer) (short_waits e).0) ∙ w in let no : ◌≡◌ {A = ℕ} 0 1 = cc in omega arith
       go false e = subst Decided w (enough_judges e)
 
   -- enough: the needed bytes alone count
@@ -177,9 +180,9 @@ module _ (part : Part) (ws : List Window) (number : ℕ) (s : Stream) (crc : Boo
   unfolding is_short
   enough-own e =
       let m : ℕ = needed_of p in
-      let x : SegmentRead = segment_read crc p in
+      let x : (Result SegmentRead Refusal) = segment_read crc p in
       let more : m ≤ length p = ltb-false (length p) m e in
       let r : segment_read crc (take m p) ≡ x = enough_read p crc e in
-      let inside : end_of x ≤ m = subst (λ (z : SegmentRead). end_of z ≤ m) r (omega (arith, segment_inside crc (take m p), length-take-le m p more)) in
+      let inside : end_of x ≤ m = subst (λ (z : Result SegmentRead Refusal). end_of z ≤ m) r (omega (arith, segment_inside crc (take m p), length-take-le m p more)) in
       let same = same_payload part ws number s bytes m p x more inside in
-      (ap (λ (z : SegmentRead). parts_answered s (parts_judged ws number s (take m p) z)) r ∙ same.answered, ap (parts_placed part ws number s (take m p) bytes) r ∙ same.placed)
+      (ap (λ (z : Result SegmentRead Refusal). parts_answered s (parts_judged ws number s (take m p) z)) r ∙ same.answered, ap (parts_placed part ws number s (take m p) bytes) r ∙ same.placed)

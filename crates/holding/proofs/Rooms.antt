@@ -15,14 +15,6 @@ use Rattle.ddp.specs.Place.{fits, placed}
 use Rattle.holding.specs.Pending.{needed_of, is_short, gathered, copied, room_after}
 use Rattle.holding.specs.declared.gather.Gathered.TheVariants.{Short, Enough}
 
--- how many more bytes make two
-pub few_left : (held more : ℕ) → held ≤ 1 → ltb more (2 - held) ≡ ltb (held + more) 2
-few_left held more h = go (ltb more (2 - held)) refl
-  where
-    go : (b : Bool) → ltb more (2 - held) ≡ b → b ≡ ltb (held + more) 2
-    go true e = sym (lt-ltb (held + more) 2 (omega (arith, h, ltb-true more (2 - held) e)))
-    go false e = sym (le-ltb (held + more) 2 (omega (arith, h, ltb-false more (2 - held) e)))
-
 -- no bytes placed
 pub placed-none : (room : List ℕ) (at : ℕ) → placed room at [] ≡ room
 unfolding placed
@@ -82,14 +74,14 @@ module _ (h input : List ℕ) (k n : ℕ) (many : k ≡ length h) (need : n ≡ 
     enough : is_short (h ++ input) ≡ false
     enough = short_by false (le-ltb _ _ more)
 
-    pub gathered-enough : Enough n ≡ gathered h input
+    pub gathered_enough : Enough n ≡ gathered h input
     unfolding gathered
-    gathered-enough = ap Enough need ∙ sym (ap (λ (b : Bool). pick b (Short (length (h ++ input))) (Enough (needed_of (h ++ input)))) enough)
+    gathered_enough = ap Enough need ∙ sym (ap (λ (b : Bool). pick b (Short (length (h ++ input))) (Enough (needed_of (h ++ input)))) enough)
 
     -- some bytes were held: those up to the FPDU's end are put behind them
-    pub room-rest : 0 < k → (room : List ℕ) → placed room k (take (n - k) input) ≡ room_after h input room
+    pub room_rest : 0 < k → (room : List ℕ) → placed room k (take (n - k) input) ≡ room_after h input room
     unfolding room_after copied
-    room-rest some room =
+    room_rest some room =
         ap₂ (λ (a b : ℕ). placed room a (take (b - a) input)) many need
         ∙ sym (ap₂ (λ (b c : Bool). placed room (length h) (take (pick b (length input) (pick c 0 (needed_of (h ++ input) - length h))) input)) enough (ne_eqb (length h) 0 (λ e. omega (arith, some, many, e))))
 
@@ -105,8 +97,8 @@ module _ (h input : List ℕ) (k n : ℕ) (many : k ≡ length h) (need : n ≡ 
     pub room_fresh : k ≡ 0 → (room : List ℕ) → room ≡ room_after h input room
     room_fresh e = none-put 0 (copied_is ∙ ap (λ (b : Bool). pick b 0 (needed_of (h ++ input) - length h)) (eq-eqb (length h) 0 (sym many ∙ e))) refl
 
-    pub room-over : n ≤ k → (room : List ℕ) → room ≡ room_after h input room
-    room-over over = none-put (pick (eqb (length h) 0) 0 (needed_of (h ++ input) - length h)) copied_is (go (eqb (length h) 0))
+    pub room_over : n ≤ k → (room : List ℕ) → room ≡ room_after h input room
+    room_over over = none-put (pick (eqb (length h) 0) 0 (needed_of (h ++ input) - length h)) copied_is (go (eqb (length h) 0))
       where
         go : (b : Bool) → pick b 0 (needed_of (h ++ input) - length h) ≡ 0
         go true = refl

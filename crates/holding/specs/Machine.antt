@@ -9,15 +9,18 @@ use Rattle.cuts.specs.Cuts.Answer.{kept, done, ended, refused}
 use Rattle.cuts.specs.Received.{Side, Report}
 use Rattle.cuts.specs.Received.Report.{event, refusal}
 use Rattle.holding.specs.declared.OfferAnswer.{OfferAnswer}
-use Rattle.holding.specs.declared.OfferAnswer.TheVariants.{Kept, Completed, Ended, Refused}
+use Rattle.holding.specs.declared.OfferAnswer.TheVariants.{Kept, Completed, Ended}
+use Rattle.std.specs.Prelude.{Err, Ok, Result}
+use Rattle.wire.specs.declared.refusal.LocalRefusal.{LocalRefusal}
+use Rattle.wire.specs.Refusal.{refusal_number}
 
 -- the state: the domain, whose stream of the slot holds nothing, and its bytes of the store
 abbrev pub side_of : ℕ → Domain → List ℕ → Side
 side_of slot d bytes = record { domain = with_stream d slot (holding (stream_at d slot) 0); bytes = bytes }
 
 -- the answer of a call, without the total of the FPDU
-abbrev pub answer_of : OfferAnswer → Answer Report
-answer_of (Kept n) = kept n
-answer_of (Completed taken total e) = done taken (event e)
-answer_of (Ended r) = ended (refusal r)
-answer_of (Refused k) = refused k
+abbrev pub answer_of : Result OfferAnswer LocalRefusal → Answer Report
+answer_of (Ok (Kept n)) = kept n
+answer_of (Ok (Completed taken total e)) = done taken (event e)
+answer_of (Ok (Ended r)) = ended (refusal r)
+answer_of (Err k) = refused (refusal_number k)

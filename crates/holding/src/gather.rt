@@ -20,35 +20,26 @@ pub enum Gathered {
     Enough(usize),
 }
 
-// A byte as a wider number.
-fn wide(b: u8) -> usize
-    ensures { (result ≡ b) × (result < 256) }
-{
-    b as usize
-}
-
 // A pending byte: of those held, which the room starts with, or else of the call's.
 fn pending(room: &[u8], held: usize, bytes: &[u8], i: usize) -> usize
     requires { (held ≤ length room.now) × (i < held + length bytes.now) }
     ensures { (result ≡ get_or (take held room.now ++ bytes.now) i 0) × (result < 256) }
 {
     if i < held {
-        return wide(room[i]);
+        return usize::from(room[i]);
     }
-    wide(bytes[i - held])
+    usize::from(bytes[i - held])
 }
 
 // Whether fewer than two bytes are pending.
 fn few(held: usize, more: usize) -> bool
     ensures { result ≡ ltb (held + more) 2 }
 {
-    if 1 < held {
-        return false;
-    }
-    more < 2 - held
+    held < 2 && more < 2 - held
 }
 
 // How many bytes a receive of the pending bytes needs.
+#[tactic(auto, unfolding(crate::specs::Pending::needed_of))]
 fn needed_of(room: &[u8], held: usize, bytes: &[u8]) -> usize
     requires { held ≤ length room.now }
     ensures { (result ≡ needed_of (take held room.now ++ bytes.now)) × (result ≤ room_bytes) × (2 ≤ result) }
@@ -65,15 +56,12 @@ fn needed_of(room: &[u8], held: usize, bytes: &[u8]) -> usize
 pub fn held_in(room: &[u8], held: u32) -> usize
     ensures { (result ≡ length (take held room.now)) × (result ≤ length room.now) × (take result room.now ≡ take held room.now) }
 {
-    let n = held as usize;
-    if room.len() < n {
-        return room.len();
-    }
-    n
+    room.len().min(held as usize)
 }
 
 // Puts the bytes behind those held, which the room starts with: all where they are too few, and else those
 // up to the FPDU's end. Where none are held an FPDU is received where it lies, and nothing is put.
+#[tactic(auto, using(crate::proofs::Rooms::gathered_short, crate::proofs::Rooms::room_short, crate::proofs::Rooms::gathered_enough, crate::proofs::Rooms::room_rest, crate::proofs::Rooms::room_fresh, crate::proofs::Rooms::room_over))]
 pub fn gather(room: &mut [u8], held: u32, bytes: &[u8]) -> Gathered
     ensures { (result ≡ gathered (take held room.old) bytes.now) × (room.new ≡ room_after (take held room.old) bytes.now room.old) }
 {

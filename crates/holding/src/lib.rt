@@ -2,7 +2,7 @@
 // this is the layer that makes no answer turn on it: what is pending are the bytes held and then those
 // of a call, which the domain receives once they are a whole FPDU.
 //
-// Read `OfferAnswer` first, then `gather`, which puts a call's bytes behind those held in the stream's
+// Read `OfferAnswer` first, what an offer answers unless it is refused, then `gather`, which puts a call's bytes behind those held in the stream's
 // room. The definitions are in specs/Pending.antt and specs/Offer.antt; the crate `device` does offers
 // on a device. `receive` is a domain's receive, which is refused while its stream holds bytes.
 #![tactic(auto)]
@@ -12,55 +12,49 @@ ghost use Rattle.holding.specs.Offer.{holds, domain_receives, domain_receives_by
 
 use arrival::{Answer, Event};
 use ddp::refusal::Refusal;
-use domain::{Domain, Received};
+use domain::Domain;
 use rdmap::stream::Stream;
+use wire::refusal::LocalRefusal;
 
 pub mod gather;
 
-// What an offer answers: all of its bytes are held; so many of them completed an FPDU, which is taken
-// with its total and an event; a refusal of the peer's bytes, which ended the stream; or a local refusal.
+// What an offer answers that is not refused: all of its bytes are held; so many of them completed an FPDU, which
+// is taken with its total and an event, if there is one; or a refusal of the peer's bytes, which ended the stream.
 #[derive(Drop)]
 pub enum OfferAnswer {
     Kept(usize),
     Completed {
         taken: usize,
         total: usize,
-        event: Event,
+        event: Option<Event>,
     },
     Ended(Refusal),
-    Refused(u8),
 }
 
 // Whether a stream is open and holds bytes.
 fn holds(s: Stream) -> bool
     ensures { result ≡ holds s }
 {
-    let phase = s.phase;
-    let framing = s.framing;
-    if phase.state == 1 {
-        return 0 < framing.held;
-    }
-    false
+    s.phase.state == 1 && 0 < s.framing.held
 }
 
 // Takes the first FPDU of bytes for a stream of the domain of this number, whose bytes are lent; 16 while
 // the stream holds bytes.
-pub fn receive(d: Domain, number: u64, store: &mut [u8], slot: u64, bytes: &[u8]) -> Received
+#[tactic(auto, unfolding(crate::specs::Offer::domain_receives, crate::specs::Offer::domain_receives_bytes, domain::specs::Domain::domain_received, domain::specs::Domain::domain_received_bytes))]
+pub fn receive(
+    d: Domain,
+    number: u64,
+    store: &mut [u8],
+    slot: u64,
+    bytes: &[u8],
+) -> (Result<Answer, LocalRefusal>, Domain)
     ensures { (result ≡ domain_receives d number slot bytes.now) × (store.new ≡ domain_receives_bytes d number slot bytes.now store.old) }
 {
     if slot <= 3 {
-        let at = slot as usize;
-        let s = d.streams[at];
-        if holds(s) {
-            return Received {
-                answer: Answer::Refused(16),
-                domain: d,
-            };
+        if holds(d.streams[slot as usize]) {
+            return (Err(LocalRefusal::HoldsBytes), d);
         }
         return domain::receive(d, number, store, slot, bytes);
     }
-    Received {
-        answer: Answer::Refused(1),
-        domain: d,
-    }
+    (Err(LocalRefusal::OutOfRange), d)
 }

@@ -23,15 +23,12 @@ use Rattle.ddp.specs.Segment.{segment_read}
 use Rattle.ddp.specs.Tagged.{tagged_of}
 use Rattle.ddp.specs.Untagged.{untagged_of}
 use Rattle.ddp.specs.declared.segment.SegmentRead.{SegmentRead}
-use Rattle.ddp.specs.declared.segment.SegmentRead.TheVariants.{Wait, Refused as SegmentRefused, Tagged as TaggedSegment, Untagged as UntaggedSegment}
-use Rattle.ddp.specs.declared.tagged.Tagged.TheVariants.{At as TaggedAt}
+use Rattle.ddp.specs.declared.segment.SegmentRead.TheVariants.{Wait, Tagged as TaggedSegment, Untagged as UntaggedSegment}
 use Rattle.ddp.proofs.Inside.{tagged_in_lem}
 use Rattle.rdmap.specs.Message.{may_write, stag_named, queue_of}
 use Rattle.rdmap.specs.Phase.{readiness}
 use Rattle.rdmap.specs.declared.message.Verdict.{Verdict}
-use Rattle.rdmap.specs.declared.message.Verdict.TheVariants.{Refused as VerdictRefused, Nothing, Write, SendMore, SendLast, Read, Terminate}
-use Rattle.rdmap.specs.declared.phase.Readiness.{Readiness}
-use Rattle.rdmap.specs.declared.phase.Readiness.TheVariants.{Ready, NotReady}
+use Rattle.rdmap.specs.declared.message.Verdict.TheVariants.{Nothing, Write, SendMore, SendLast, Read, Terminate}
 use Rattle.rdmap.specs.declared.stream.Stream.{Stream}
 use Rattle.rdmap.specs.Stream.{no_stream}
 use Rattle.domain.specs.Domain.{stream_at, domain_received_bytes}
@@ -58,6 +55,9 @@ use Rattle.isolation.proofs.Reachable.{Sound, Placing, Lands, ruled, payload_of,
 use Rattle.isolation.proofs.Steps.{own, alien}
 use Rattle.isolation.proofs.WellFormed.{Fit}
 use Rattle.isolation.proofs.Writers.{shares_no_byte, opened_apart, closed_apart, taken_apart, dropped_apart, ticked_apart, received_apart, offered_apart, registered_apart, posted_apart, new_apart}
+use Rattle.std.specs.Prelude.{Err, Ok, Result, Some, ⊤}
+use Rattle.ddp.specs.declared.refusal.Refusal.{Refusal}
+use Rattle.wire.specs.declared.refusal.LocalRefusal.{LocalRefusal}
 
 -- ---- over a run
 book_apart : (A : ℕ) (v : View) → Sound v.dom → Apart v.dom → (c : Call) → Apart (book A v c).after.dom
@@ -111,7 +111,7 @@ abbrev Into : Domain → Writer → ℕ → ℕ → Type 0
 Into d a n at = Writes d a × ((start_of d a ≤ at) × (at + n ≤ start_of d a + len_of d a))
 
 -- a payload that is judged to go through a window goes into it, and the window is live
-tagged_live : (w : Window) (number stag to n at : ℕ) → tagged_of w number stag to n ≡ TaggedAt at → w.live ≡ true
+tagged_live : (w : Window) (number stag to n at : ℕ) → tagged_of w number stag to n ≡ Ok (Some at) → w.live ≡ true
 tagged_live w number stag to n at q = go w.live refl
   where
     go : (t : Bool) → w.live ≡ t → t ≡ true
@@ -120,25 +120,25 @@ tagged_live w number stag to n at q = go w.live refl
         let z = tagged_in_lem (record { start = 1; end = 0 }) w number stag to n at (λ l. let no : ◌≡◌ {A = ℕ} 0 1 = cc in absurd (omega arith)) q in
         absurd (omega (arith, z.0, z.1))
 
-tagged_inside : (w : Window) (number stag to n at : ℕ) → tagged_of w number stag to n ≡ TaggedAt at → (w.place ≤ at) × (at + n ≤ w.place + w.len)
+tagged_inside : (w : Window) (number stag to n at : ℕ) → tagged_of w number stag to n ≡ Ok (Some at) → (w.place ≤ at) × (at + n ≤ w.place + w.len)
 tagged_inside w number stag to n at q = tagged_in_lem (record { start = w.place; end = w.place + w.len }) w number stag to n at (λ l. (omega arith, omega arith)) q
 
 module _ (d : Domain) (number slot : ℕ) (input : List ℕ) where
   -- what a segment is judged to place goes into the writer that it is for
   judged_into :
-      (s : SegmentRead) → s ≡ segment_read (stream_at d slot).framing.crc input →
+      (s : Result SegmentRead Refusal) → s ≡ segment_read (stream_at d slot).framing.crc input →
       Placing (Into d (target slot s) (length (payload_of input s))) (parts_verdict d.windows number (stream_at d slot) input s)
-  judged_into (Wait n) e = tt
-  judged_into (SegmentRefused r) e = tt
-  judged_into (TaggedSegment total t start len) e =
+  judged_into (Ok (Wait n)) e = tt
+  judged_into (Err r) e = tt
+  judged_into (Ok (TaggedSegment total t start len)) e =
       let i = slot_named t.stag in
       let w = window_at d.windows i in
       subst (λ (n : ℕ). Placing (Into d (window i) n) (tagged_verdict w number t len))
-      (sym (length_part input start len (inside (stream_at d slot).framing.crc input (TaggedSegment total t start len) e)))
+      (sym (length_part input start len (inside (stream_at d slot).framing.crc input (Ok (TaggedSegment total t start len)) e)))
       (write-lands (Into d (window i) len) w number t.stag t.to t.control len
       (λ at q m. (ap₂ both (tagged_live w number t.stag t.to len at q) m, tagged_inside w number t.stag t.to len at q))
       (tagged_of w number t.stag t.to len) refl)
-  judged_into (UntaggedSegment total t start len) e =
+  judged_into (Ok (UntaggedSegment total t start len)) e =
       let n = length (part input start len) in
       untagged_lands (Into d (buffer slot 0) n) (window_at d.windows (slot_named (stag_named t (part input start len)))) number (stream_at d slot) t (part input start len) n
       (λ at c f. (c, (omega arith, omega (arith, f))))
@@ -173,15 +173,15 @@ module _ (d : Domain) (t : Writer) (payload bytes : List ℕ) (long : length byt
       go (no b) (yes e) = (i.0, (omega (arith, b, l.0, i.1.0), omega (arith, e, l.0, i.1.1)))
 
   ruled_in :
-      (v : Verdict) → Lands d.part v (length payload) → Placing (Into d t (length payload)) v →
+      (v : Result Verdict Refusal) → Lands d.part v (length payload) → Placing (Into d t (length payload)) v →
       (get_or (ruled d.part.start v payload bytes) x 0 ≡ get_or bytes x 0 → ⊥) → Writes d t × Has d t (d.part.start + x)
-  ruled_in (VerdictRefused r) l i c = absurd (c refl)
-  ruled_in Nothing l i c = absurd (c refl)
-  ruled_in (Write at) l i c = put_in at l i c
-  ruled_in (SendMore at opcode taken) l i c = put_in at l i c
-  ruled_in (SendLast at opcode start len inv) l i c = put_in at l i c
-  ruled_in (Read r) l i c = absurd (c refl)
-  ruled_in (Terminate layer etype code) l i c = absurd (c refl)
+  ruled_in (Err r) l i c = absurd (c refl)
+  ruled_in (Ok Nothing) l i c = absurd (c refl)
+  ruled_in (Ok (Write at)) l i c = put_in at l i c
+  ruled_in (Ok (SendMore at opcode taken)) l i c = put_in at l i c
+  ruled_in (Ok (SendLast at opcode start len inv)) l i c = put_in at l i c
+  ruled_in (Ok (Read r)) l i c = absurd (c refl)
+  ruled_in (Ok (Terminate layer etype code)) l i c = absurd (c refl)
 
 -- a writer lies in its domain's part
 writer_lies : (d : Domain) → Sound d → (a : Writer) → Writes d a → Lies d.part (start_of d a) (len_of d a)
@@ -203,20 +203,20 @@ module _ (d : Domain) (k : Sound d) (number slot : ℕ) (input bytes : List ℕ)
   unfolding domain_received_bytes parts_received_bytes
   changed_in_receiver x c = go (dec_lt slot 4) (readiness (stream_at d slot).phase) refl
     where
-      seg : SegmentRead
+      seg : Result SegmentRead Refusal
       seg = segment_read (stream_at d slot).framing.crc input
 
       go :
-          Dec (slot < 4) → (r : Readiness) → readiness (stream_at d slot).phase ≡ r →
+          Dec (slot < 4) → (r : Result ⊤ LocalRefusal) → readiness (stream_at d slot).phase ≡ r →
           Writes d (receiver d slot input) × Has d (receiver d slot input) (d.part.start + x)
       go (no h) r e =
           absurd (c (ap (λ (t : Bool). get_or (pick t (parts_received_bytes d.part d.windows number (stream_at d slot) input bytes) bytes) x 0) (lt-leb slot 3 (omega (arith, h)))))
-      go (yes h) (NotReady n) e =
+      go (yes h) (Err n) e =
           absurd
           (c
           (ap (λ (t : Bool). get_or (pick t (parts_received_bytes d.part d.windows number (stream_at d slot) input bytes) bytes) x 0) (le-leb slot 3 (omega (arith, h)))
-          ∙ ap (λ (r : Readiness). get_or (parts_bytes_when d.part d.windows number (stream_at d slot) input bytes r) x 0) e))
-      go (yes h) Ready e =
+          ∙ ap (λ (r : Result ⊤ LocalRefusal). get_or (parts_bytes_when d.part d.windows number (stream_at d slot) input bytes r) x 0) e))
+      go (yes h) (Ok tt) e =
           ruled_in d (receiver d slot input) (payload_of input seg) bytes long x (parts_verdict d.windows number (stream_at d slot) input seg)
           (judged_lands d k number slot h input seg refl) (judged_into d number slot input seg refl)
           (λ q. c (ap (λ (l : List ℕ). get_or l x 0) (placed_where_judged d k number slot h input bytes long e) ∙ q))

@@ -10,8 +10,6 @@ use lib.Dec.{leb, eqb}
 use denote.Ref.{Bor, MutBor, at_last}
 use contract.Lifetimes.{Lfts}
 use Rattle.wire.specs.Wire.{pick}
-use Rattle.memory.specs.declared.part.Outcome.{Outcome}
-use Rattle.memory.specs.declared.part.Outcome.TheVariants.{Done, Refused as NotDone}
 use Rattle.domain.specs.Domain.{stream_at}
 use Rattle.domain.specs.declared.Domain.{Domain}
 use Rattle.holding.specs.declared.OfferAnswer.{OfferAnswer}
@@ -22,8 +20,6 @@ use Rattle.isolation.specs.Book.Call.{open_stream, close_stream, register, drop_
 use Rattle.isolation.specs.Book.Answer.{done, closed, received, offered, taken, counted, gauge_read, stated}
 use Rattle.isolation.specs.Number.{Numbered}
 use Rattle.rnic.specs.declared.Rnic.{Rnic}
-use Rattle.rnic.specs.declared.RnicDone.{RnicDone}
-use Rattle.rnic.specs.declared.RnicReceived.{RnicReceived}
 use Rattle.rnic.proofs.open.Reads as open-reads
 use Rattle.rnic.proofs.open_stream.Reads as open-stream-reads
 use Rattle.rnic.proofs.close_stream.Reads as close-stream-reads
@@ -38,6 +34,9 @@ use Rattle.rnic.proofs.tick.Reads as tick-reads
 use Rattle.rnic.proofs.reading.Reads as reading-reads
 use Rattle.rnic.proofs.stream_state.Reads as stream-state-reads
 use Rattle.calls.proofs.call.Reads as call-reads
+use Rattle.std.specs.Prelude.{Err, Ok, Result, ⊤}
+use Rattle.wire.specs.declared.refusal.LocalRefusal.{LocalRefusal}
+use Rattle.arrival.specs.declared.Answer.{Answer as ReceiveAnswer}
 
 -- the device, the store of which it was opened, and the second slice, of sixteen rooms
 pub record World : Type 0 where
@@ -96,34 +95,34 @@ pub record ReceiveStep (w : World) (n : ℕ) (input : List ℕ) (k : ℕ) (a : A
   pub lent : LentStore w k
   pub bytes : Bor (List ℕ)
   pub given : bytes.now ≡ input
-  pub result : RnicReceived
+  pub result : Result ReceiveAnswer LocalRefusal × Rnic
   pub contract : receive-reads.Post lifetimes (w.dev, (lent.slice, (n, (bytes, tt)))) result (w.dev, (at_last lent.slice lent.after, (n, (bytes, tt))))
-  pub answered : a ≡ received result.answer
-  pub world : w₁ ≡ record { dev = result.rnic; mem = store_after w k lent; rooms = w.rooms }
+  pub answered : a ≡ received result.0
+  pub world : w₁ ≡ record { dev = result.1; mem = store_after w k lent; rooms = w.rooms }
 
 -- an offer, which is lent a slice of length k as the store and one of length m as the second; form is how its answer is given
-pub record OfferStep {R : Type 0} (form : OfferAnswer → R) (w : World) (n : ℕ) (input : List ℕ) (k m : ℕ) (x : R) (w₁ : World) : Type 0 where
+pub record OfferStep {R : Type 0} (form : Result OfferAnswer LocalRefusal → R) (w : World) (n : ℕ) (input : List ℕ) (k m : ℕ) (x : R) (w₁ : World) : Type 0 where
   pub store : LentStore w k
   pub second : LentRooms w m
   pub answered : x ≡ form (rnic_offer_answer w.dev k n second.slice.now input)
   pub stored : store.after ≡ rnic_offered_store w.dev n second.slice.now input store.slice.now
   pub kept : second.after ≡ rnic_offered_rooms w.dev k n second.slice.now input
-  pub world : w₁ ≡ record { dev = (rnic_offered w.dev k n second.slice.now input).rnic; mem = store_after w k store; rooms = rooms_after w m second }
+  pub world : w₁ ≡ record { dev = (rnic_offered w.dev k n second.slice.now input).1; mem = store_after w k store; rooms = rooms_after w m second }
 
 -- one call, by the device's own function, or an offer by its definition
 abbrev pub Step : World → Call → Answer → World → Type 0
-Step w (open_stream n crc) = PlainStep open-stream-reads.Post (w.dev, (n, (crc, tt))) (λ r. done r.outcome) (λ r. r.rnic) w
-Step w (close_stream n) = PlainStep close-stream-reads.Post (w.dev, (n, tt)) (λ r. closed r.answer) (λ r. r.rnic) w
+Step w (open_stream n crc) = PlainStep open-stream-reads.Post (w.dev, (n, (crc, tt))) (λ r. done r.0) (λ r. r.1) w
+Step w (close_stream n) = PlainStep close-stream-reads.Post (w.dev, (n, tt)) (λ r. closed r.0) (λ r. r.1) w
 Step w (register i key base len place rights) =
-    PlainStep register-reads.Post (w.dev, (i, (key, (base, (len, (place, (rights, tt))))))) (λ r. done r.outcome) (λ r. r.rnic) w
-Step w (drop_window i) = PlainStep drop-window-reads.Post (w.dev, (i, tt)) (λ r. done r.outcome) (λ r. r.rnic) w
-Step w (post n start len) = PlainStep post-reads.Post (w.dev, (n, (start, (len, tt)))) (λ r. done r.outcome) (λ r. r.rnic) w
+    PlainStep register-reads.Post (w.dev, (i, (key, (base, (len, (place, (rights, tt))))))) (λ r. done r.0) (λ r. r.1) w
+Step w (drop_window i) = PlainStep drop-window-reads.Post (w.dev, (i, tt)) (λ r. done r.0) (λ r. r.1) w
+Step w (post n start len) = PlainStep post-reads.Post (w.dev, (n, (start, (len, tt)))) (λ r. done r.0) (λ r. r.1) w
 Step w (receive n input k) = ReceiveStep w n input k
 Step w (offer n input k m) = OfferStep offered w n input k m
-Step w (take_read n) = PlainStep take-reads.Post (w.dev, (n, tt)) (λ r. taken r.answer) (λ r. r.rnic) w
+Step w (take_read n) = PlainStep take-reads.Post (w.dev, (n, tt)) (λ r. taken r.0) (λ r. r.1) w
 Step w (live d) = PlainStep live-count-reads.Post (w.dev, (d, tt)) counted (λ r. w.dev) w
 Step w (free d) = PlainStep lowest-free-reads.Post (w.dev, (d, tt)) counted (λ r. w.dev) w
-Step w (tick d) = PlainStep tick-reads.Post (w.dev, (d, tt)) (λ r. done r.outcome) (λ r. r.rnic) w
+Step w (tick d) = PlainStep tick-reads.Post (w.dev, (d, tt)) (λ r. done r.0) (λ r. r.1) w
 Step w (read_gauge d) = PlainStep reading-reads.Post (w.dev, (d, tt)) gauge_read (λ r. w.dev) w
 Step w (ask_state n) = PlainStep stream-state-reads.Post (w.dev, (n, tt)) stated (λ r. w.dev) w
 
@@ -143,16 +142,16 @@ pub record NumberStep (w : World) (c : Numbered) (words : List ℕ) (w₁ : Worl
   pub world : w₁ ≡ record { dev = result; mem = store_after w c.size lent; rooms = w.rooms }
 
 -- ---- the opening
-abbrev pub accepted : Outcome → Bool
-accepted Done = true
-accepted (NotDone n) = false
+abbrev pub accepted : Result ⊤ LocalRefusal → Bool
+accepted (Ok tt) = true
+accepted (Err n) = false
 
 -- the world that an opening makes of the caller's store and second slice, by the contract of `open`. After a refused one the store is
 -- empty. Of the second slice nothing is asked but its length: no stream is open, so none holds a byte
 abbrev pub Opened : Opening → List ℕ → List ℕ → World → Type 0
 Opened o mem rooms w =
-    (r : RnicDone) ×
+    (r : Result ⊤ LocalRefusal × Rnic) ×
     open-reads.Post tt (o.len, (o.s₀, (o.e₀, (o.s₁, (o.e₁, (o.s₂, (o.e₂, (o.s₃, (o.e₃, tt))))))))) r (o.len, (o.s₀, (o.e₀, (o.s₁, (o.e₁, (o.s₂, (o.e₂, (o.s₃, (o.e₃, tt))))))))) ×
-    (accepted r.outcome ≡ true → length mem ≡ o.len) ×
+    (accepted r.0 ≡ true → length mem ≡ o.len) ×
     (length rooms ≡ rooms_bytes) ×
-    (w ≡ record { dev = r.rnic; mem = pick (accepted r.outcome) mem []; rooms = rooms })
+    (w ≡ record { dev = r.1; mem = pick (accepted r.0) mem []; rooms = rooms })

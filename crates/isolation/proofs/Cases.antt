@@ -15,8 +15,6 @@ use Rattle.mpa.specs.Startup.{startup_of}
 use Rattle.memory.specs.Part.{in_part}
 use Rattle.memory.specs.Window.{in_range, window_fits, registered_in, registered, dropped_in, dropped, named, found_in, wraps, spanned}
 use Rattle.memory.specs.Buffer.{posted, popped_of}
-use Rattle.memory.specs.declared.part.Outcome.{Outcome}
-use Rattle.memory.specs.declared.part.Outcome.TheVariants.{Done, Refused as NotDone}
 use Rattle.ddp.specs.Header.{tagged_fields, untagged_fields, tagged_read, untagged_read, header_read}
 use Rattle.ddp.specs.Segment.{segment_read}
 use Rattle.ddp.specs.Tagged.{tagged_of}
@@ -30,38 +28,41 @@ use Rattle.arrival.specs.Parts.{parts_applied, placed_from, applied_bytes, parts
 use Rattle.overlap.specs.Sharing.{shares, window_shares, windows_share, buffers_share, streams_share}
 use Rattle.domain.specs.Sharing.{domain_shares, lastly}
 use Rattle.arrival.specs.declared.Answer.{Answer}
-use Rattle.arrival.specs.declared.Answer.TheVariants.{Wait, Taken, Ended, Refused}
-use Rattle.arrival.specs.declared.Event.TheVariants.{NoEvent, Sent, SentInvalidating, Terminated}
+use Rattle.arrival.specs.declared.Answer.TheVariants.{Wait, Taken, Ended}
+use Rattle.arrival.specs.declared.Event.TheVariants.{Sent, SentInvalidating, Terminated}
 use Rattle.holding.specs.Pending.{needed_of, is_short, copied, room_after}
 use Rattle.holding.specs.Offer.{domain_receives, domain_receives_bytes, parts_offered, parts_offered_bytes, domain_offered, domain_offered_bytes}
 use Rattle.holding.specs.declared.OfferAnswer.{OfferAnswer}
-use Rattle.holding.specs.declared.OfferAnswer.TheVariants.{Kept, Completed, Ended as OfferEnded, Refused as OfferRefused}
+use Rattle.holding.specs.declared.OfferAnswer.TheVariants.{Kept, Completed, Ended as OfferEnded}
 use Rattle.rnic.specs.Offer.{rooms_bytes, offered_owned, offered_owned_store, offered_owned_rooms, rnic_offered, rnic_offer_answer, rnic_offered_store, rnic_offered_rooms}
 use Rattle.rnic.specs.Rnic.{opened_rnic, rnic_opened, rnic_closed, rnic_posted, rnic_registered, rnic_dropped, received_owned, received_owned_store, rnic_received, rnic_received_store, rnic_ticked, rnic_reading, rnic_state}
 use Rattle.rnic.specs.declared.Rnic.{Rnic}
 use Rattle.meter.specs.Gauge.{sampled_gauge, reading_of}
 use Rattle.meter.specs.Words.{level_bits}
 use Rattle.calls.specs.Words.{reading_words, state_words}
+use Rattle.std.specs.Prelude.{Err, None, Ok, Result, Some, ⊤}
+use Rattle.wire.specs.declared.refusal.LocalRefusal.{LocalRefusal}
+use Rattle.wire.specs.Refusal.{refusal_number}
 
 -- an answer in numbers: Wait n; Taken with its total and event; a peer refusal's number, layer, type and code; a local refusal's number
-abbrev code : Answer → List ℕ
-code (Wait n) = 0 ∷ n ∷ []
-code (Taken total NoEvent) = 1 ∷ total ∷ []
-code (Taken total (Sent start len opcode)) = 2 ∷ total ∷ start ∷ len ∷ opcode ∷ []
-code (Taken total (SentInvalidating start len opcode stag)) = 3 ∷ total ∷ start ∷ len ∷ opcode ∷ stag ∷ []
-code (Taken total (Terminated layer etype c)) = 4 ∷ total ∷ layer ∷ etype ∷ c ∷ []
-code (Ended r) = 5 ∷ r.number ∷ r.layer ∷ r.etype ∷ r.code ∷ []
-code (Refused n) = 6 ∷ n ∷ []
+abbrev code : Result Answer LocalRefusal → List ℕ
+code (Ok (Wait n)) = 0 ∷ n ∷ []
+code (Ok (Taken total None)) = 1 ∷ total ∷ []
+code (Ok (Taken total (Some (Sent start len opcode)))) = 2 ∷ total ∷ start ∷ len ∷ opcode ∷ []
+code (Ok (Taken total (Some (SentInvalidating start len opcode stag)))) = 3 ∷ total ∷ start ∷ len ∷ opcode ∷ stag ∷ []
+code (Ok (Taken total (Some (Terminated layer etype c)))) = 4 ∷ total ∷ layer ∷ etype ∷ c ∷ []
+code (Ok (Ended r)) = 5 ∷ r.number ∷ r.layer ∷ r.etype ∷ r.code ∷ []
+code (Err n) = 6 ∷ refusal_number n ∷ []
 
 -- "Store 4,096, parts of 1,024 each. Window 17, key 5, base 4,096, length 4, place 1,024, write. Stream 4, CRC off."
 abbrev empty : Rnic
-empty = (opened_rnic 4096 0 1024 1024 2048 2048 3072 3072 4096).rnic
+empty = (opened_rnic 4096 0 1024 1024 2048 2048 3072 3072 4096).1
 
 abbrev window : ℕ → Rnic
-window rights = (rnic_registered empty 17 5 4096 4 1024 rights).rnic
+window rights = (rnic_registered empty 17 5 4096 4 1024 rights).1
 
 abbrev device : ℕ → Rnic
-device stream = (rnic_opened (window 1) stream false).rnic
+device stream = (rnic_opened (window 1) stream false).1
 
 -- a store in which every byte is 7
 abbrev store : List ℕ
@@ -89,34 +90,34 @@ request stag size =
 
 -- what receive answers
 abbrev answer : Rnic → ℕ → List ℕ → List ℕ
-answer b stream input = code (rnic_received b 4096 stream input).answer
+answer b stream input = code (rnic_received b 4096 stream input).0
 
 -- what register and post answer: 0 done, or the refusal's number
-abbrev told : Outcome → List ℕ
-told Done = 0 ∷ []
-told (NotDone n) = n ∷ []
+abbrev told : Result ⊤ LocalRefusal → List ℕ
+told (Ok tt) = 0 ∷ []
+told (Err n) = refusal_number n ∷ []
 
 abbrev registers : Rnic → ℕ → ℕ → ℕ → ℕ → List ℕ
-registers b w len place rights = told (rnic_registered b w 5 0 len place rights).outcome
+registers b w len place rights = told (rnic_registered b w 5 0 len place rights).0
 
 abbrev posts : Rnic → ℕ → ℕ → ℕ → List ℕ
-posts b stream start len = told (rnic_posted b stream start len).outcome
+posts b stream start len = told (rnic_posted b stream start len).0
 
 -- a buffer of 5 bytes at 1,100 on stream 4; stream 5, of the same domain, is open too
 abbrev waits : Rnic
-waits = (rnic_opened (rnic_posted (device 4) 4 1100 5).rnic 5 false).rnic
+waits = (rnic_opened (rnic_posted (device 4) 4 1100 5).1 5 false).1
 
 -- buffers of one byte from 1,100 on, n of them
 abbrev buffers : ℕ → Rnic
 buffers zero = device 4
-buffers (suc n) = (rnic_posted (buffers n) 4 (1100 + n) 1).rnic
+buffers (suc n) = (rnic_posted (buffers n) 4 (1100 + n) 1).1
 
 -- what an offer answers: Kept n; Completed with how many of its bytes it took, and then as receive; a refusal as receive's
-abbrev offer_code : OfferAnswer → List ℕ
-offer_code (Kept n) = 7 ∷ n ∷ []
-offer_code (Completed taken total event) = taken ∷ code (Taken total event)
-offer_code (OfferEnded r) = code (Ended r)
-offer_code (OfferRefused n) = code (Refused n)
+abbrev offer_code : Result OfferAnswer LocalRefusal → List ℕ
+offer_code (Ok (Kept n)) = 7 ∷ n ∷ []
+offer_code (Ok (Completed taken total event)) = taken ∷ code (Ok (Taken total event))
+offer_code (Ok (OfferEnded r)) = code (Ok (Ended r))
+offer_code (Err n) = code (Err n)
 
 -- rooms in which every byte is 9
 abbrev rooms : List ℕ
@@ -127,7 +128,7 @@ offers b stream second input = offer_code (rnic_offer_answer b 4096 stream secon
 
 -- the first n bytes of the paper's frame are offered on stream 4: the device, and the rooms
 abbrev begun : ℕ → Rnic
-begun n = (rnic_offered (device 4) 4096 4 rooms (take n paper)).rnic
+begun n = (rnic_offered (device 4) 4096 4 rooms (take n paper)).1
 
 abbrev begun_rooms : ℕ → List ℕ
 begun_rooms n = rnic_offered_rooms (device 4) 4096 4 rooms (take n paper)
@@ -137,12 +138,12 @@ abbrev eight : List ℕ
 eight = be16 26 ++ (0x41 ∷ 0x43 ∷ (be32 0 ++ (be32 0 ++ (be32 1 ++ (be32 0 ++ (1 ∷ 2 ∷ 3 ∷ 4 ∷ 5 ∷ 6 ∷ 7 ∷ 8 ∷ 0 ∷ 0 ∷ 0 ∷ 0 ∷ []))))))
 
 abbrev filled : Rnic
-filled = (rnic_received (rnic_posted (device 4) 4 1100 8).rnic 4096 4 eight).rnic
+filled = (rnic_received (rnic_posted (device 4) 4 1100 8).1 4096 4 eight).1
 
 -- n ticks of a domain
 abbrev ticked : ℕ → ℕ → Rnic → Rnic
 ticked d zero b = b
-ticked d (suc n) b = (rnic_ticked (ticked d n b) d).rnic
+ticked d (suc n) b = (rnic_ticked (ticked d n b) d).1
 
 -- what its gauge reads as: 12 quiet; 13 steady, 14 falling, with the bits; 0 a refusal
 abbrev reads : Rnic → ℕ → List ℕ
@@ -154,7 +155,7 @@ terminate = be16 22 ++ (0x41 ∷ 0x47 ∷ (be32 0 ++ (be32 2 ++ (be32 1 ++ (be32
 
 -- stream 4 after some bytes, where a buffer waits on it
 abbrev after : List ℕ → Rnic
-after input = (rnic_received waits 4096 4 input).rnic
+after input = (rnic_received waits 4096 4 input).1
 
 -- what asking for a stream's state answers, in words
 abbrev states : Rnic → ℕ → List ℕ
@@ -183,17 +184,17 @@ log =
     ∷ gives (answer (device 4) 4 (write 0x1106 4096 beef)) (5 ∷ 25 ∷ 1 ∷ 1 ∷ 0x00 ∷ [])
     -- On stream 0: 24, also after window 17 is dropped
     ∷ gives (answer (device 0) 0 paper) (5 ∷ 24 ∷ 1 ∷ 1 ∷ 0x02 ∷ [])
-    ∷ gives (answer (rnic_dropped (device 0) 17).rnic 0 paper) (5 ∷ 24 ∷ 1 ∷ 1 ∷ 0x02 ∷ [])
+    ∷ gives (answer (rnic_dropped (device 0) 17).1 0 paper) (5 ∷ 24 ∷ 1 ∷ 1 ∷ 0x02 ∷ [])
     -- TO 2^64 − 4: 27; 2^64 − 3: 26
     ∷ gives (answer (device 4) 4 (write 0x1105 18446744073709551612 beef)) (5 ∷ 27 ∷ 1 ∷ 1 ∷ 0x01 ∷ [])
     ∷ gives (answer (device 4) 4 (write 0x1105 18446744073709551613 beef)) (5 ∷ 26 ∷ 1 ∷ 1 ∷ 0x03 ∷ [])
     -- Read right only: 35
-    ∷ gives (answer (rnic_opened (window 2) 4 false).rnic 4 paper) (5 ∷ 35 ∷ 0 ∷ 1 ∷ 0x02 ∷ [])
+    ∷ gives (answer (rnic_opened (window 2) 4 false).1 4 paper) (5 ∷ 35 ∷ 0 ∷ 1 ∷ 0x02 ∷ [])
     -- No payload, STag 0: Taken 20
     ∷ gives (answer (device 4) 4 (write 0 0 [])) (1 ∷ 20 ∷ [])
     -- A 5-byte Send, buffer at 1,100: of 5 bytes, Taken 32; of 4, refusal 32
-    ∷ gives (answer (rnic_posted (device 4) 4 1100 5).rnic 4 send) (2 ∷ 32 ∷ 1100 ∷ 5 ∷ 3 ∷ [])
-    ∷ gives (answer (rnic_posted (device 4) 4 1100 4).rnic 4 send) (5 ∷ 32 ∷ 1 ∷ 2 ∷ 0x05 ∷ [])
+    ∷ gives (answer (rnic_posted (device 4) 4 1100 5).1 4 send) (2 ∷ 32 ∷ 1100 ∷ 5 ∷ 3 ∷ [])
+    ∷ gives (answer (rnic_posted (device 4) 4 1100 4).1 4 send) (5 ∷ 32 ∷ 1 ∷ 2 ∷ 0x05 ∷ [])
     -- A read of no bytes is queued without a look at its source, STag 0 or another domain's; one of a byte is refused
     ∷ gives (answer (device 4) 4 (request 0 0)) (1 ∷ 52 ∷ [])
     ∷ gives (answer (device 4) 4 (request 0 1)) (5 ∷ 38 ∷ 0 ∷ 1 ∷ 0x03 ∷ [])
@@ -224,9 +225,9 @@ log =
     ∷ gives (posts waits 5 1095 5) (0 ∷ [])
     ∷ gives (registers waits 18 4 1096 1) (0 ∷ [])
     -- the same place is free again once the window is dropped, the stream is closed, or the buffer is used
-    ∷ gives (registers (rnic_dropped (device 4) 17).rnic 18 4 1027 1) (0 ∷ [])
-    ∷ gives (posts (rnic_closed waits 4).rnic 5 1104 5) (0 ∷ [])
-    ∷ gives (posts (rnic_received waits 4096 4 send).rnic 5 1104 5) (0 ∷ [])
+    ∷ gives (registers (rnic_dropped (device 4) 17).1 18 4 1027 1) (0 ∷ [])
+    ∷ gives (posts (rnic_closed waits 4).1 5 1104 5) (0 ∷ [])
+    ∷ gives (posts (rnic_received waits 4096 4 send).1 5 1104 5) (0 ∷ [])
     -- 19 is asked last: 6 window live, 9 not in the part, 3 stream not open, and the ninth buffer, which shares a byte: 10
     ∷ gives (registers (device 4) 17 4 1027 1) (6 ∷ [])
     ∷ gives (registers (device 4) 18 4 1023 1) (9 ∷ [])
@@ -235,7 +236,7 @@ log =
     ∷ gives (posts (buffers 7) 4 1100 1) (19 ∷ [])
     ∷ gives (posts (buffers 8) 4 1100 1) (10 ∷ [])
     -- another domain's entries are not looked at: what they have is not in its part
-    ∷ gives (posts (rnic_opened waits 0 false).rnic 0 1104 5) (9 ∷ [])
+    ∷ gives (posts (rnic_opened waits 0 false).1 0 1104 5) (9 ∷ [])
     -- the paper's frame offered whole, and with more behind it: 24 bytes are taken; offered in two pieces: Kept 10, and 14 are taken
     ∷ gives (offers (device 4) 4 rooms paper) (24 ∷ 1 ∷ 24 ∷ [])
     ∷ gives (offers (device 4) 4 rooms (paper ++ paper)) (24 ∷ 1 ∷ 24 ∷ [])
@@ -246,13 +247,13 @@ log =
     ∷ gives (offers (begun 10) 4 (begun_rooms 10) []) (7 ∷ 0 ∷ [])
     -- receive is refused with 16 while its own stream holds bytes, and not on another stream, nor once close has emptied them
     ∷ gives (answer (begun 10) 4 paper) (6 ∷ 16 ∷ [])
-    ∷ gives (answer (rnic_opened (begun 10) 5 false).rnic 5 paper) (1 ∷ 24 ∷ [])
-    ∷ gives (answer (rnic_opened (rnic_closed (begun 10) 4).rnic 4 false).rnic 4 paper) (1 ∷ 24 ∷ [])
+    ∷ gives (answer (rnic_opened (begun 10) 5 false).1 5 paper) (1 ∷ 24 ∷ [])
+    ∷ gives (answer (rnic_opened (rnic_closed (begun 10) 4).1 4 false).1 4 paper) (1 ∷ 24 ∷ [])
     -- a ULPDU length of 8,192: Wait 8,200, and an offer is kept; of 8,193: 20; after it 5
     ∷ gives (answer (device 4) 4 (0x20 ∷ 0x00 ∷ [])) (0 ∷ 8200 ∷ [])
     ∷ gives (offers (device 4) 4 rooms (0x20 ∷ 0x00 ∷ [])) (7 ∷ 2 ∷ [])
     ∷ gives (offers (device 4) 4 rooms (0x20 ∷ 0x01 ∷ [])) (5 ∷ 20 ∷ 1 ∷ 0 ∷ 0x00 ∷ [])
-    ∷ gives (offers (rnic_offered (device 4) 4096 4 rooms (0x20 ∷ 0x01 ∷ [])).rnic 4 rooms paper) (6 ∷ 5 ∷ [])
+    ∷ gives (offers (rnic_offered (device 4) 4096 4 rooms (0x20 ∷ 0x01 ∷ [])).1 4 rooms paper) (6 ∷ 5 ∷ [])
     -- another length of either slice: 2; a stream that is not open: 3; no stream's number: 1
     ∷ gives (offer_code (rnic_offer_answer (device 4) 4095 4 rooms paper)) (6 ∷ 2 ∷ [])
     ∷ gives (offers (device 4) 4 (9 ∷ rooms) paper) (6 ∷ 2 ∷ [])
@@ -268,11 +269,11 @@ log =
     ∷ gives (reads (ticked 1 1 (ticked 0 1 filled)) 1) (13 ∷ 0x4020000000000000 ∷ 0 ∷ [])
     ∷ gives (reads (ticked 0 1 filled) 0) (12 ∷ 0 ∷ 0 ∷ [])
     -- a Write that is offered in two pieces counts its 4 bytes once; a Send that is refused, and a read, count none
-    ∷ gives (reads (ticked 1 1 (rnic_offered (begun 10) 4096 4 (begun_rooms 10) (drop 10 paper)).rnic) 1) (13 ∷ 0x4010000000000000 ∷ 0 ∷ [])
-    ∷ gives (reads (ticked 1 1 (rnic_received (rnic_posted (device 4) 4 1100 4).rnic 4096 4 send).rnic) 1) (12 ∷ 0 ∷ 0 ∷ [])
-    ∷ gives (reads (ticked 1 1 (rnic_received (device 4) 4096 4 (request 0 0)).rnic) 1) (12 ∷ 0 ∷ 0 ∷ [])
+    ∷ gives (reads (ticked 1 1 (rnic_offered (begun 10) 4096 4 (begun_rooms 10) (drop 10 paper)).1) 1) (13 ∷ 0x4010000000000000 ∷ 0 ∷ [])
+    ∷ gives (reads (ticked 1 1 (rnic_received (rnic_posted (device 4) 4 1100 4).1 4096 4 send).1) 1) (12 ∷ 0 ∷ 0 ∷ [])
+    ∷ gives (reads (ticked 1 1 (rnic_received (device 4) 4096 4 (request 0 0)).1) 1) (12 ∷ 0 ∷ 0 ∷ [])
     -- no domain's number: 1
-    ∷ gives (told (rnic_ticked filled 4).outcome) (1 ∷ [])
+    ∷ gives (told (rnic_ticked filled 4).0) (1 ∷ [])
     ∷ gives (reads filled 4) (0 ∷ 1 ∷ 0 ∷ [])
     -- a stream's state: closed; open, with a buffer that waits, and with a read too; ended by 27; ended by a Terminate
     ∷ gives (states waits 6) (15 ∷ 0 ∷ 0 ∷ 0 ∷ 0 ∷ 0 ∷ 0 ∷ 0 ∷ [])
@@ -296,7 +297,7 @@ all (x ∷ xs) = both (same x.got x.want) (all xs)
 
 -- the test passes over the whole table
 log-holds : all log ≡ true
-unfolding fpdu_read fpdu_read_of startup_of in_part in_range window_fits registered_in registered dropped_in dropped named found_in wraps spanned posted popped_of tagged_fields untagged_fields tagged_read untagged_read header_read segment_read tagged_of untagged_in untagged_of fits placed send_verdict read_verdict terminate_verdict message_verdict queue_of queued_reads opened closed posted_on shares window_shares windows_share buffers_share streams_share domain_shares lastly domain_opened domain_closed domain_posted domain_registered domain_dropped parts_applied placed_from applied_bytes parts_received parts_received_bytes domain_received domain_received_bytes opened_rnic rnic_opened rnic_closed rnic_posted rnic_registered rnic_dropped received_owned received_owned_store rnic_received rnic_received_store domain_receives domain_receives_bytes needed_of is_short copied room_after parts_offered parts_offered_bytes domain_offered domain_offered_bytes offered_owned offered_owned_store offered_owned_rooms rnic_offered rnic_offered_store rnic_offered_rooms rnic_ticked rnic_reading state_of domain_state rnic_state sampled_gauge reading_of level_bits add sub div lt ne of_int to_bits
+unfolding refusal_number fpdu_read fpdu_read_of startup_of in_part in_range window_fits registered_in registered dropped_in dropped named found_in wraps spanned posted popped_of tagged_fields untagged_fields tagged_read untagged_read header_read segment_read tagged_of untagged_in untagged_of fits placed send_verdict read_verdict terminate_verdict message_verdict queue_of queued_reads opened closed posted_on shares window_shares windows_share buffers_share streams_share domain_shares lastly domain_opened domain_closed domain_posted domain_registered domain_dropped parts_applied placed_from applied_bytes parts_received parts_received_bytes domain_received domain_received_bytes opened_rnic rnic_opened rnic_closed rnic_posted rnic_registered rnic_dropped received_owned received_owned_store rnic_received rnic_received_store domain_receives domain_receives_bytes needed_of is_short copied room_after parts_offered parts_offered_bytes domain_offered domain_offered_bytes offered_owned offered_owned_store offered_owned_rooms rnic_offered rnic_offered_store rnic_offered_rooms rnic_ticked rnic_reading state_of domain_state rnic_state sampled_gauge reading_of level_bits add sub div lt ne of_int to_bits
 log-holds = refl
 
 -- so each case gives what it must

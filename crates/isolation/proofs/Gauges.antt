@@ -14,67 +14,68 @@ use Rattle.arrival.specs.Parts.{parts_received}
 use Rattle.overlap.specs.Sharing.{writes}
 use Rattle.domain.specs.Sharing.{domain_shares}
 use Rattle.arrival.specs.declared.Answer.{Answer as ReceiveAnswer}
-use Rattle.arrival.specs.declared.Answer.TheVariants.{Wait, Taken, Ended, Refused}
+use Rattle.arrival.specs.declared.Answer.TheVariants.{Wait, Taken, Ended}
 use Rattle.domain.specs.declared.Domain.{Domain}
-use Rattle.domain.specs.declared.DomainDone.{DomainDone}
-use Rattle.domain.specs.declared.DomainClosed.{DomainClosed}
-use Rattle.domain.specs.declared.DomainTaken.{DomainTaken}
-use Rattle.domain.specs.declared.Received.{Received}
 use Rattle.holding.specs.Offer.{holds_at, domain_receives, parts_offered, domain_offered}
 use Rattle.rnic.specs.Offer.{rooms_bytes}
 use Rattle.isolation.specs.Book.{Call, Answer, View, Observation, book_receive, book_offer, book}
 use Rattle.isolation.specs.Book.Call.{open_stream, close_stream, register, drop_window, post, receive, offer, take_read, live, free, tick, read_gauge, ask_state}
 use Rattle.isolation.proofs.Kept.{picked, lastly-holds}
+use Rattle.std.specs.Prelude.{Err, Ok, Result}
+use Rattle.wire.specs.declared.refusal.LocalRefusal.{LocalRefusal}
+use Rattle.std.specs.Prelude.{⊤}
+use Rattle.rdmap.specs.declared.stream.Left.{Left}
+use Rattle.rdmap.specs.declared.read.ReadRequest.{ReadRequest}
 
 abbrev Metered : Domain → Type 0
 Metered d = MeterWellFormed d.meter
 
-by-metered : (a : ReceiveAnswer) (n : ℕ) (m : Meter) → MeterWellFormed m → MeterWellFormed (meter_by a n m)
-by-metered (Wait k) n m w = w
-by-metered (Taken total e) n m w = record { counts = counted-fits m.count n; gauge = w.gauge }
-by-metered (Ended r) n m w = w
-by-metered (Refused k) n m w = w
+by-metered : (a : Result ReceiveAnswer LocalRefusal) (n : ℕ) (m : Meter) → MeterWellFormed m → MeterWellFormed (meter_by a n m)
+by-metered (Ok (Wait k)) n m w = w
+by-metered (Ok (Taken total e)) n m w = record { counts = counted-fits m.count n; gauge = w.gauge }
+by-metered (Ok (Ended r)) n m w = w
+by-metered (Err k) n m w = w
 
 module _ (d : Domain) (w : Metered d) where
-  opened-metered : (slot : ℕ) (crc : Bool) → Metered (domain_opened d slot crc).domain
+  opened-metered : (slot : ℕ) (crc : Bool) → Metered (domain_opened d slot crc).1
   unfolding domain_opened
-  opened-metered slot crc = picked (λ (r : DomainDone). Metered r.domain) (leb slot 3) _ _ (λ e. w) (λ e. w)
+  opened-metered slot crc = picked (λ (r : Result ⊤ LocalRefusal × Domain). Metered r.1) (leb slot 3) _ _ (λ e. w) (λ e. w)
 
-  closed-metered : (slot : ℕ) → Metered (domain_closed d slot).domain
+  closed-metered : (slot : ℕ) → Metered (domain_closed d slot).1
   unfolding domain_closed
-  closed-metered slot = picked (λ (r : DomainClosed). Metered r.domain) (leb slot 3) _ _ (λ e. w) (λ e. w)
+  closed-metered slot = picked (λ (r : Result Left LocalRefusal × Domain). Metered r.1) (leb slot 3) _ _ (λ e. w) (λ e. w)
 
-  posted-metered : (slot start len : ℕ) → Metered (domain_posted d slot start len).domain
+  posted-metered : (slot start len : ℕ) → Metered (domain_posted d slot start len).1
   unfolding domain_posted
   posted-metered slot start len =
-      picked (λ (r : DomainDone). Metered r.domain) (leb slot 3) _ _ (λ e. lastly-holds Metered (domain_shares d start len) d _ w (λ q f. w) (λ n q. w)) (λ e. w)
+      picked (λ (r : Result ⊤ LocalRefusal × Domain). Metered r.1) (leb slot 3) _ _ (λ e. lastly-holds Metered (domain_shares d start len) d _ w (λ q f. w) (λ n q. w)) (λ e. w)
 
-  taken-metered : (slot : ℕ) → Metered (domain_taken d slot).domain
+  taken-metered : (slot : ℕ) → Metered (domain_taken d slot).1
   unfolding domain_taken
-  taken-metered slot = picked (λ (r : DomainTaken). Metered r.domain) (leb slot 3) _ _ (λ e. w) (λ e. w)
+  taken-metered slot = picked (λ (r : Result ReadRequest LocalRefusal × Domain). Metered r.1) (leb slot 3) _ _ (λ e. w) (λ e. w)
 
-  registered-metered : (slot key base len place rights : ℕ) → Metered (domain_registered d slot key base len place rights).domain
+  registered-metered : (slot key base len place rights : ℕ) → Metered (domain_registered d slot key base len place rights).1
   unfolding domain_registered
   registered-metered slot key base len place rights = lastly-holds Metered (both (writes rights) (domain_shares d place len)) d _ w (λ q f. w) (λ n q. w)
 
-  dropped-metered : (slot : ℕ) → Metered (domain_dropped d slot).domain
+  dropped-metered : (slot : ℕ) → Metered (domain_dropped d slot).1
   unfolding domain_dropped
   dropped-metered slot = w
 
-  received-metered : (number slot : ℕ) (input : List ℕ) → Metered (domain_receives d number slot input).domain
+  received-metered : (number slot : ℕ) (input : List ℕ) → Metered (domain_receives d number slot input).1
   unfolding domain_receives domain_received
   received-metered number slot input =
       let r = parts_received d.windows number (stream_at d slot) input in
       let seg = segment_read (stream_at d slot).framing.crc input in
-      picked (λ (x : Received). Metered x.domain) (holds_at d slot) _ _ (λ e. w)
-      (λ q. picked (λ (x : Received). Metered x.domain) (leb slot 3) (metered_of seg (lifted d slot r)) _ (λ e. by-metered r.answer (segment_count seg) d.meter w) (λ e. w))
+      picked (λ (x : Result ReceiveAnswer LocalRefusal × Domain). Metered x.1) (holds_at d slot) _ _ (λ e. w)
+      (λ q. picked (λ (x : Result ReceiveAnswer LocalRefusal × Domain). Metered x.1) (leb slot 3) (metered_of seg (lifted d slot r)) _ (λ e. by-metered r.answer (segment_count seg) d.meter w) (λ e. w))
 
-  offered-metered : (number slot : ℕ) (held input : List ℕ) → Metered (domain_offered d number slot held input).domain
+  offered-metered : (number slot : ℕ) (held input : List ℕ) → Metered (domain_offered d number slot held input).1
   unfolding domain_offered
   offered-metered number slot held input =
       let r = parts_offered d.windows number (stream_at d slot) held input in
       let seg = segment_read (stream_at d slot).framing.crc (held ++ input) in
-      picked (λ (x : Received). Metered x.domain) (leb slot 3) (metered_of seg (lifted d slot r)) _ (λ e. by-metered r.answer (segment_count seg) d.meter w) (λ e. w)
+      picked (λ (x : Result ReceiveAnswer LocalRefusal × Domain). Metered x.1) (leb slot 3) (metered_of seg (lifted d slot r)) _ (λ e. by-metered r.answer (segment_count seg) d.meter w) (λ e. w)
 
 -- ---- the book
 pub book-metered : (A : ℕ) (v : View) → MeterWellFormed v.dom.meter → (c : Call) → MeterWellFormed (book A v c).after.dom.meter

@@ -15,6 +15,8 @@ use Rattle.isolation.proofs.Induction.{trace-is, views-are, end_is}
 use Rattle.isolation.proofs.Numbers.{numbers, number_other}
 use Rattle.isolation.proofs.Openings.{opened_fit, opened_view}
 use Rattle.isolation.proofs.Steps.{receive_other, offer_other}
+use Rattle.std.specs.Prelude.{Result}
+use Rattle.wire.specs.declared.refusal.LocalRefusal.{LocalRefusal}
 
 -- a run is as A's book says, v being A's first view
 pub record ByBook (A : ℕ) (v : View) {I : Interface} {w w₁ : World} {cs : List I.Request} (r : Run I w cs w₁) : Type 0 where
@@ -86,7 +88,7 @@ other_slice_kept-by-number = number_other
 -- and so of an offer that is lent another length of either slice, in whatever form its answer is given: it is refused, both slices stay,
 -- and the world
 pub other_slice_kept-by-offer :
-    {R : Type 0} (form : OfferAnswer → R) (w : World) (n : ℕ) (input : List ℕ) (k m : ℕ) (x : R) (w₁ : World) (s : OfferStep form w n input k m x w₁) →
+    {R : Type 0} (form : Result OfferAnswer LocalRefusal → R) (w : World) (n : ℕ) (input : List ℕ) (k m : ℕ) (x : R) (w₁ : World) (s : OfferStep form w n input k m x w₁) →
     ((k ≡ w.dev.len) × (m ≡ rooms_bytes) → ⊥) →
     (s.store.after ≡ s.store.slice.now) × (s.second.after ≡ s.second.slice.now) × (w₁ ≡ w)
 other_slice_kept-by-offer = offer_other

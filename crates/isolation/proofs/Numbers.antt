@@ -83,7 +83,7 @@ module _ (w : World) (c : Numbered) (words : List ℕ) (w₁ : World) (s : Numbe
   -- receive, by the same slice and the same bytes
   receiving : eqb c.number 9 ≡ true → Matches (receive (n 0) c.input c.size) (called_receive b c.size (n 0) c.input)
   receiving e g h = (
-    received (rnic_received b c.size (n 0) c.input).answer,
+    received (rnic_received b c.size (n 0) c.input).0,
     record {
       lifetimes = ([], ([], tt));
       lent = s.lent;

@@ -59,12 +59,12 @@ module _ (w : World) (f : Fit w) (n : ℕ) (low : n < 16) (input : List ℕ) whe
 
   -- the domain afterwards
   abbrev after : Domain
-  after = (domain_offered d (n / 4) (n % 4) (v.held (n % 4)) input).domain
+  after = (domain_offered d (n / 4) (n % 4) (v.held (n % 4)) input).1
 
   own-holds : take (stream_at after (n % 4)).framing.held (room_of rooms_then (4 * (n / 4) + n % 4)) ≡ domain_offered_held d (n / 4) (n % 4) (v.held (n % 4)) input
   own-holds =
-      ap₂ (λ (h : List ℕ) (i : ℕ). take (stream_at (domain_offered d (n / 4) (n % 4) h input).domain (n % 4)).framing.held (room_of rooms_then i)) (held-is w n) (own_room n)
-      ∙ ap (take (stream_at (domain_offered d (n / 4) (n % 4) (held_bytes w.dev n w.rooms) input).domain (n % 4)).framing.held) (room-same w.rooms f.roomy n low then then-long)
+      ap₂ (λ (h : List ℕ) (i : ℕ). take (stream_at (domain_offered d (n / 4) (n % 4) h input).1 (n % 4)).framing.held (room_of rooms_then i)) (held-is w n) (own_room n)
+      ∙ ap (take (stream_at (domain_offered d (n / 4) (n % 4) (held_bytes w.dev n w.rooms) input).1 (n % 4)).framing.held) (room-same w.rooms f.roomy n low then then-long)
       ∙ domain-room-holds d (n / 4) (n % 4) (omega arith) input room (room-long w.rooms f.roomy n low)
       ∙ ap (λ (h : List ℕ). domain_offered_held d (n / 4) (n % 4) h input) (sym (held-is w n))
 

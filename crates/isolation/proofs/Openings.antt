@@ -10,40 +10,42 @@ use borrow.Author.Tests.{leb-true}
 use borrow.Rule.Slice.PartMut.{mid_of}
 use Rattle.wire.specs.Wire.{pick, both}
 use Rattle.wire.proofs.Laws.{both_true}
-use Rattle.memory.specs.declared.part.Outcome.TheVariants.{Done, Refused as NotDone}
 use Rattle.rdmap.specs.Stream.{closed_stream, no_stream}
 use Rattle.domain.specs.Domain.{new_domain}
 use Rattle.domain.specs.declared.Domain.{Domain}
 use Rattle.rnic.specs.Rnic.{domain_at, bytes_of, in_order, new_rnic, empty_rnic, opened_rnic}
 use Rattle.rnic.specs.Offer.{rooms_bytes, room_of}
 use Rattle.rnic.specs.declared.Rnic.{Rnic}
-use Rattle.rnic.specs.declared.RnicDone.{RnicDone}
 use Rattle.isolation.specs.Book.{View, Opening, opens, first_bytes, first_view}
 use Rattle.isolation.proofs.Calls.{World, Opened, held_in, view, accepted}
 use Rattle.isolation.proofs.WellFormed.{Fit, view_path, world_path}
+use Rattle.std.specs.Prelude.{Err, Ok}
+use Rattle.wire.specs.declared.refusal.LocalRefusal.TheVariants.{BadPlace, OutOfRange}
+use Rattle.std.specs.Prelude.{Result, ⊤}
+use Rattle.wire.specs.declared.refusal.LocalRefusal.{LocalRefusal}
 
 -- what the contract's definition says of an opening that is accepted, and of one that is not
-abbrev opened_by : Opening → RnicDone
+abbrev opened_by : Opening → (Result ⊤ LocalRefusal × Rnic)
 opened_by o = opened_rnic o.len o.s₀ o.e₀ o.s₁ o.e₁ o.s₂ o.e₂ o.s₃ o.e₃
 
 abbrev new_by : Opening → Rnic
 new_by o = new_rnic o.len o.s₀ o.e₀ o.s₁ o.e₁ o.s₂ o.e₂ o.s₃ o.e₃
 
-pick-both : (t u : Bool) (x y z : RnicDone) → both t u ≡ true → pick t (pick u x y) z ≡ x
+pick-both : (t u : Bool) (x y z : Result ⊤ LocalRefusal × Rnic) → both t u ≡ true → pick t (pick u x y) z ≡ x
 pick-both true true x y z e = refl
 pick-both true false x y z e = cc
 pick-both false u x y z e = cc
 
-abbrev Turned : RnicDone → Type 0
-Turned r = (accepted r.outcome ≡ false) × (r.rnic ≡ empty_rnic)
+abbrev Turned : (Result ⊤ LocalRefusal × Rnic) → Type 0
+Turned r = (accepted r.0 ≡ false) × (r.1 ≡ empty_rnic)
 
-pick_turned : (t u : Bool) (x y z : RnicDone) → both t u ≡ false → Turned y → Turned z → Turned (pick t (pick u x y) z)
+pick_turned : (t u : Bool) (x y z : Result ⊤ LocalRefusal × Rnic) → both t u ≡ false → Turned y → Turned z → Turned (pick t (pick u x y) z)
 pick_turned true true x y z e p q = ((cc), (cc))
 pick_turned true false x y z e p q = p
 pick_turned false u x y z e p q = q
 
 module _ (o : Opening) where
-  open_in : opens o ≡ true → opened_by o ≡ record { outcome = Done; rnic = new_by o }
+  open_in : opens o ≡ true → opened_by o ≡ (Ok tt, new_by o)
   unfolding opened_rnic
   open_in e = pick-both (both (leb 1 o.len) (leb o.len 16777216)) (in_order 0 (o.s₀ ∷ o.e₀ ∷ o.s₁ ∷ o.e₁ ∷ o.s₂ ∷ o.e₂ ∷ o.s₃ ∷ o.e₃ ∷ []) o.len) _ _ _ e
 
@@ -51,7 +53,7 @@ module _ (o : Opening) where
   unfolding opened_rnic
   open_out e =
       pick_turned (both (leb 1 o.len) (leb o.len 16777216)) (in_order 0 (o.s₀ ∷ o.e₀ ∷ o.s₁ ∷ o.e₁ ∷ o.s₂ ∷ o.e₂ ∷ o.s₃ ∷ o.e₃ ∷ []) o.len)
-      _ (record { outcome = NotDone 9; rnic = empty_rnic }) (record { outcome = NotDone 1; rnic = empty_rnic }) e (refl, refl) (refl, refl)
+      _ (Err BadPlace, empty_rnic) (Err OutOfRange, empty_rnic) e (refl, refl) (refl, refl)
 
   -- the parts of an opening in order
   record Ordered : Type 0 where
@@ -154,17 +156,17 @@ new_holds A start end rooms slot = ap (λ (n : ℕ). pick (leb slot 3) (take n (
 
 module _ (o : Opening) (mem rooms : List ℕ) (w : World) (s : Opened o mem rooms w) where
   opened-long : opens o ≡ true → length mem ≡ o.len
-  opened-long e = s.2 (ap (λ x. accepted x.outcome) (s.1 ∙ open_in o e))
+  opened-long e = s.2 (ap (λ x. accepted x.0) (s.1 ∙ open_in o e))
 
   opened_world : opens o ≡ true → w ≡ record { dev = new_by o; mem = mem; rooms = rooms }
   opened_world e =
       let r = s.1 ∙ open_in o e in
-      s.4 ∙ world_path (ap (λ x. x.rnic) r) (ap (λ x. pick (accepted x.outcome) mem []) r) refl
+      s.4 ∙ world_path (ap (λ x. x.1) r) (ap (λ x. pick (accepted x.0) mem []) r) refl
 
   refused_world : opens o ≡ false → w ≡ record { dev = empty_rnic; mem = []; rooms = rooms }
   refused_world e =
       let r = open_out o e in
-      s.4 ∙ world_path (ap (λ x. x.rnic) s.1 ∙ r.1) (ap (λ x. pick (accepted x.outcome) mem []) s.1 ∙ ap (λ (t : Bool). pick t mem []) r.0) refl
+      s.4 ∙ world_path (ap (λ x. x.1) s.1 ∙ r.1) (ap (λ x. pick (accepted x.0) mem []) s.1 ∙ ap (λ (t : Bool). pick t mem []) r.0) refl
 
   -- an opening, accepted or refused, gives a well-formed device
   pub opened_fit : Fit w

@@ -25,6 +25,8 @@ use Rattle.isolation.proofs.Induction.{made_fit}
 use Rattle.isolation.proofs.Numbers.{numbers}
 use Rattle.isolation.proofs.Openings.{opened_fit}
 use Rattle.isolation.proofs.WellFormed.{Fit}
+use Rattle.std.specs.Prelude.{Result}
+use Rattle.wire.specs.declared.refusal.LocalRefusal.{LocalRefusal}
 
 -- a request that can be made in a world, with its reply and the world after it
 pub record Possible (I : Interface) (w : World) (c : I.Request) : Type 0 where
@@ -58,7 +60,7 @@ abbrev lend : {mem : List ℕ} {len size : ℕ} → Slice mem len size → List 
 lend x l = record { slice = reference_to_write x.bytes; after = l; long = x.long; whole = x.whole }
 
 -- an offer, whose answer is given in any form
-offers : {R : Type 0} (form : OfferAnswer → R) (w : World) → Fit w → (n : ℕ) (input : List ℕ) (k m : ℕ) → (x : R) × (w₁ : World) × OfferStep form w n input k m x w₁
+offers : {R : Type 0} (form : Result OfferAnswer LocalRefusal → R) (w : World) → Fit w → (n : ℕ) (input : List ℕ) (k m : ℕ) → (x : R) × (w₁ : World) × OfferStep form w n input k m x w₁
 offers form w f n input k m =
     let x = slice w.mem w.dev.len f.long k in
     let y = slice w.rooms rooms_bytes f.roomy m in (

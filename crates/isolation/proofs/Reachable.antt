@@ -25,19 +25,10 @@ use Rattle.ddp.specs.Segment.{segment_read}
 use Rattle.memory.specs.declared.part.Part.{Part}
 use Rattle.memory.specs.declared.buffer.Buffer.{Buffer}
 use Rattle.memory.specs.declared.buffer.Buffers.{Buffers}
-use Rattle.memory.specs.declared.buffer.Posted.{Posted}
 use Rattle.ddp.specs.declared.header.UntaggedHeader.{UntaggedHeader}
 use Rattle.ddp.specs.declared.segment.SegmentRead.{SegmentRead}
-use Rattle.ddp.specs.declared.segment.SegmentRead.TheVariants.{Wait, Refused as SegmentRefused, Tagged as TaggedSegment, Untagged as UntaggedSegment}
-use Rattle.ddp.specs.declared.tagged.Tagged.{Tagged}
-use Rattle.ddp.specs.declared.tagged.Tagged.TheVariants.{Nowhere, At as TaggedAt, Refused as TaggedRefused}
-use Rattle.ddp.specs.declared.untagged.Untagged.{Untagged}
-use Rattle.ddp.specs.declared.untagged.Untagged.TheVariants.{At as UntaggedAt, Refused as UntaggedRefused}
+use Rattle.ddp.specs.declared.segment.SegmentRead.TheVariants.{Wait, Tagged as TaggedSegment, Untagged as UntaggedSegment}
 use Rattle.memory.specs.declared.window.Window.{Window}
-use Rattle.memory.specs.declared.window.Found.{Found}
-use Rattle.memory.specs.declared.window.Found.TheVariants.{Slot, Foreign, Missing}
-use Rattle.memory.specs.declared.window.Span.{Span}
-use Rattle.memory.specs.declared.window.Span.TheVariants.{Inside, Wrap, Outside}
 use Rattle.ddp.proofs.Inside.{tagged_in_lem}
 use Rattle.memory.proofs.Inside.{Lies, WindowsIn, BuffersIn, registered_in_lem, dropped_in_lem, posted_in, popped_in}
 use Rattle.rdmap.specs.Message.{opcode_of, controlled, after, may_write, may_read, write_verdict, fits_queue, takes_stag, invalidated, send_verdict, source_in, source_of, read_verdict, terminate_verdict, message_verdict, stag_named, queue_of, untagged_verdict}
@@ -46,19 +37,10 @@ use Rattle.rdmap.specs.Refusal.{no_write_right, no_read_right, malformed}
 use Rattle.rdmap.specs.Phase.{is_closed, readiness}
 use Rattle.rdmap.specs.Sends.{no_buffers, current_buffer}
 use Rattle.rdmap.specs.Stream.{closed_stream, holding, opened, closed, posted_when, posted_on, taken_when, taken_from, no_stream}
-use Rattle.rdmap.specs.declared.message.Control.{Control}
-use Rattle.rdmap.specs.declared.message.Control.TheVariants.{Valid, Refused as ControlRefused}
-use Rattle.rdmap.specs.declared.message.Invalidate.{Invalidate}
-use Rattle.rdmap.specs.declared.message.Invalidate.TheVariants.{NoStag, Stag}
 use Rattle.rdmap.specs.declared.message.Verdict.{Verdict}
-use Rattle.rdmap.specs.declared.message.Verdict.TheVariants.{Refused as VerdictRefused, Nothing, Write, SendMore, SendLast, Read, Terminate}
+use Rattle.rdmap.specs.declared.message.Verdict.TheVariants.{Nothing, Write, SendMore, SendLast, Read, Terminate}
 use Rattle.rdmap.specs.declared.read.ReadRequest.{ReadRequest}
-use Rattle.rdmap.specs.declared.phase.Readiness.{Readiness}
-use Rattle.rdmap.specs.declared.phase.Readiness.TheVariants.{Ready, NotReady}
 use Rattle.rdmap.specs.declared.stream.Stream.{Stream}
-use Rattle.rdmap.specs.declared.stream.StreamDone.{StreamDone}
-use Rattle.rdmap.specs.declared.stream.StreamClosed.{StreamClosed}
-use Rattle.rdmap.specs.declared.stream.StreamTaken.{StreamTaken}
 use Rattle.meter.specs.Invariant.{MeterWellFormed}
 use Rattle.meter.specs.Words.{level_bits}
 use Rattle.meter.specs.declared.Meter.{Meter}
@@ -69,10 +51,6 @@ use Rattle.arrival.specs.Parts.{applied_bytes, placed_from, parts_applied, tagge
 use Rattle.overlap.specs.Sharing.{writes}
 use Rattle.domain.specs.Sharing.{domain_shares}
 use Rattle.domain.specs.declared.Domain.{Domain}
-use Rattle.domain.specs.declared.DomainDone.{DomainDone}
-use Rattle.domain.specs.declared.DomainClosed.{DomainClosed}
-use Rattle.domain.specs.declared.DomainTaken.{DomainTaken}
-use Rattle.domain.specs.declared.Received.{Received}
 use Rattle.arrival.specs.declared.parts.PartsReceived.{PartsReceived}
 use Rattle.arrival.specs.declared.parts.Judged.{Judged}
 use Rattle.arrival.specs.declared.parts.Judged.TheVariants.{Wait as JudgedWait, Fpdu}
@@ -93,6 +71,15 @@ use Rattle.isolation.proofs.Kept.{picked, lastly-holds}
 use Rattle.isolation.proofs.Openings.{opened_fit}
 use Rattle.isolation.proofs.Short.{HeldShort, AllShort, new_short, book_short}
 use Rattle.isolation.proofs.WellFormed.{Fit, part-fits}
+use Rattle.std.specs.Prelude.{Err, None, Ok, Option, Result, Some, ⊤}
+use Rattle.ddp.specs.declared.refusal.Refusal.{Refusal}
+use Rattle.memory.specs.declared.window.SpanFault.{SpanFault}
+use Rattle.memory.specs.declared.window.SpanFault.TheVariants.{Outside, Wrap}
+use Rattle.memory.specs.declared.window.StagFault.{StagFault}
+use Rattle.memory.specs.declared.window.StagFault.TheVariants.{Foreign, Missing}
+use Rattle.wire.specs.declared.refusal.LocalRefusal.{LocalRefusal}
+use Rattle.rdmap.specs.declared.stream.Left.{Left}
+use Rattle.arrival.specs.declared.Answer.{Answer as ReceiveAnswer}
 
 -- the buffers that wait, of eight entries, lie in a part
 pub record Waits (p : Part) (bs : Buffers) : Type 0 where
@@ -114,18 +101,18 @@ module _ (p : Part) where
   abbrev Sized : Buffers → Type 0
   Sized bs = (length bs.entries ≡ 8) × (bs.count ≤ 8)
 
-  posted_when_lem : (t : Bool) (x y : Posted) → (t ≡ true → Sized x.buffers) → Sized y.buffers → Sized (pick t x y).buffers
+  posted_when_lem : (t : Bool) (x y : Result ⊤ LocalRefusal × Buffers) → (t ≡ true → Sized x.1) → Sized y.1 → Sized (pick t x y).1
   posted_when_lem true x y f g = f refl
   posted_when_lem false x y f g = g
 
-  posted-sized : (bs : Buffers) (start len : ℕ) → Sized bs → Sized (posted bs p start len).buffers
+  posted-sized : (bs : Buffers) (start len : ℕ) → Sized bs → Sized (posted bs p start len).1
   unfolding posted
   posted-sized bs start len h =
       posted_when_lem (in_part p start len) _ _
       (λ e. posted_when_lem (ltb bs.count 8) _ _ (λ f. (length-set bs.entries bs.count (record { start = start; len = len }) ∙ h.0, omega (arith, ltb-true bs.count 8 f))) h)
       h
 
-  posted-waits : (bs : Buffers) (start len : ℕ) → Waits p bs → Waits p (posted bs p start len).buffers
+  posted-waits : (bs : Buffers) (start len : ℕ) → Waits p bs → Waits p (posted bs p start len).1
   posted-waits bs start len w =
       let z = posted-sized bs start len (w.long, w.few) in
       record { long = z.0; few = z.1; inside = posted_in p bs start len w.long w.inside }
@@ -145,49 +132,49 @@ module _ (p : Part) where
 
   -- ---- a stream's calls
   module _ (s : Stream) (w : Waits p s.sends.buffers) where
-    opened-waits : (crc : Bool) → Waits p (opened s crc).stream.sends.buffers
+    opened-waits : (crc : Bool) → Waits p (opened s crc).1.sends.buffers
     unfolding opened
-    opened-waits crc = picked (λ (r : StreamDone). Waits p r.stream.sends.buffers) (is_closed s.phase) _ _ (λ e. none-waits) (λ e. w)
+    opened-waits crc = picked (λ (r : Result ⊤ LocalRefusal × Stream). Waits p r.1.sends.buffers) (is_closed s.phase) _ _ (λ e. none-waits) (λ e. w)
 
-    closed-waits : Waits p (closed s).stream.sends.buffers
+    closed-waits : Waits p (closed s).1.sends.buffers
     unfolding closed
-    closed-waits = picked (λ (r : StreamClosed). Waits p r.stream.sends.buffers) (is_closed s.phase) _ _ (λ e. w) (λ e. none-waits)
+    closed-waits = picked (λ (r : Result Left LocalRefusal × Stream). Waits p r.1.sends.buffers) (is_closed s.phase) _ _ (λ e. w) (λ e. none-waits)
 
-    posted_on_when : (start len : ℕ) (r : Readiness) → Waits p (posted_when s p start len r).stream.sends.buffers
-    posted_on_when start len Ready = posted-waits s.sends.buffers start len w
-    posted_on_when start len (NotReady k) = w
+    posted_on_when : (start len : ℕ) (r : Result ⊤ LocalRefusal) → Waits p (posted_when s p start len r).1.sends.buffers
+    posted_on_when start len (Ok tt) = posted-waits s.sends.buffers start len w
+    posted_on_when start len (Err k) = w
 
-    posted_on_waits : (start len : ℕ) → Waits p (posted_on s p start len).stream.sends.buffers
+    posted_on_waits : (start len : ℕ) → Waits p (posted_on s p start len).1.sends.buffers
     unfolding posted_on
     posted_on_waits start len = posted_on_when start len (readiness s.phase)
 
-    taken_when_waits : (r : Readiness) → Waits p (taken_when s r).stream.sends.buffers
-    taken_when_waits Ready = picked (λ (r : StreamTaken). Waits p r.stream.sends.buffers) (eqb s.reads.count 0) _ _ (λ e. w) (λ e. w)
-    taken_when_waits (NotReady k) = w
+    taken_when_waits : (r : Result ⊤ LocalRefusal) → Waits p (taken_when s r).1.sends.buffers
+    taken_when_waits (Ok tt) = picked (λ (r : Result ReadRequest LocalRefusal × Stream). Waits p r.1.sends.buffers) (eqb s.reads.count 0) _ _ (λ e. w) (λ e. w)
+    taken_when_waits (Err k) = w
 
-    taken-waits : Waits p (taken_from s).stream.sends.buffers
+    taken-waits : Waits p (taken_from s).1.sends.buffers
     unfolding taken_from
     taken-waits = taken_when_waits (readiness s.phase)
 
     -- ---- receive
-    applied_waits : (total : ℕ) (v : Verdict) → Waits p (parts_applied s total v).stream.sends.buffers
+    applied_waits : (total : ℕ) (v : Result Verdict Refusal) → Waits p (parts_applied s total v).stream.sends.buffers
     unfolding parts_applied
-    applied_waits total (VerdictRefused r) = w
-    applied_waits total Nothing = w
-    applied_waits total (Write at) = w
-    applied_waits total (SendMore at opcode taken) = w
-    applied_waits total (SendLast at opcode start len inv) = popped_waits s.sends.buffers w
-    applied_waits total (Read r) = w
-    applied_waits total (Terminate layer etype code) = w
+    applied_waits total (Err r) = w
+    applied_waits total (Ok Nothing) = w
+    applied_waits total (Ok (Write at)) = w
+    applied_waits total (Ok (SendMore at opcode taken)) = w
+    applied_waits total (Ok (SendLast at opcode start len inv)) = popped_waits s.sends.buffers w
+    applied_waits total (Ok (Read r)) = w
+    applied_waits total (Ok (Terminate layer etype code)) = w
 
     answered_waits : (j : Judged) → Waits p (parts_answered s j).stream.sends.buffers
     answered_waits (JudgedWait n) = w
     answered_waits (Fpdu total v) = applied_waits total v
 
     module _ (ws : List Window) (number : ℕ) (input : List ℕ) where
-      when_waits : (r : Readiness) → Waits p (parts_when ws number s input r).stream.sends.buffers
-      when_waits Ready = answered_waits (parts_judged ws number s input (segment_read s.framing.crc input))
-      when_waits (NotReady n) = w
+      when_waits : (r : Result ⊤ LocalRefusal) → Waits p (parts_when ws number s input r).stream.sends.buffers
+      when_waits (Ok tt) = answered_waits (parts_judged ws number s input (segment_read s.framing.crc input))
+      when_waits (Err n) = w
 
       received-waits : Waits p (parts_received ws number s input).stream.sends.buffers
       unfolding parts_received
@@ -237,39 +224,39 @@ slot_lt slot e = omega (arith, leb-true slot 3 e)
 
 -- ---- each step of a domain keeps it
 module _ (d : Domain) (k : Sound d) where
-  pub opened_sound : (slot : ℕ) (crc : Bool) → Sound (domain_opened d slot crc).domain
+  pub opened_sound : (slot : ℕ) (crc : Bool) → Sound (domain_opened d slot crc).1
   unfolding domain_opened
   opened_sound slot crc =
-      picked (λ (r : DomainDone). Sound r.domain) (leb slot 3) _ _
+      picked (λ (r : Result ⊤ LocalRefusal × Domain). Sound r.1) (leb slot 3) _ _
       (λ e. with_stream_lem d slot _ k (slot_lt slot e) (opened-waits d.part (stream_at d slot) (k.waiting slot (slot_lt slot e)) crc)) (λ e. k)
 
-  pub closed_sound : (slot : ℕ) → Sound (domain_closed d slot).domain
+  pub closed_sound : (slot : ℕ) → Sound (domain_closed d slot).1
   unfolding domain_closed
   closed_sound slot =
-      picked (λ (r : DomainClosed). Sound r.domain) (leb slot 3) _ _
+      picked (λ (r : Result Left LocalRefusal × Domain). Sound r.1) (leb slot 3) _ _
       (λ e. with_stream_lem d slot _ k (slot_lt slot e) (closed-waits d.part (stream_at d slot) (k.waiting slot (slot_lt slot e)))) (λ e. k)
 
-  pub posted_sound : (slot start len : ℕ) → Sound (domain_posted d slot start len).domain
+  pub posted_sound : (slot start len : ℕ) → Sound (domain_posted d slot start len).1
   unfolding domain_posted
   posted_sound slot start len =
-      picked (λ (r : DomainDone). Sound r.domain) (leb slot 3) _ _
+      picked (λ (r : Result ⊤ LocalRefusal × Domain). Sound r.1) (leb slot 3) _ _
       (λ e. let z = with_stream_lem d slot _ k (slot_lt slot e) (posted_on_waits d.part (stream_at d slot) (k.waiting slot (slot_lt slot e)) start len) in
       lastly-holds Sound (domain_shares d start len) d _ k (λ q f. z) (λ n q. z))
       (λ e. k)
 
-  pub taken_sound : (slot : ℕ) → Sound (domain_taken d slot).domain
+  pub taken_sound : (slot : ℕ) → Sound (domain_taken d slot).1
   unfolding domain_taken
   taken_sound slot =
-      picked (λ (r : DomainTaken). Sound r.domain) (leb slot 3) _ _
+      picked (λ (r : Result ReadRequest LocalRefusal × Domain). Sound r.1) (leb slot 3) _ _
       (λ e. with_stream_lem d slot _ k (slot_lt slot e) (taken-waits d.part (stream_at d slot) (k.waiting slot (slot_lt slot e)))) (λ e. k)
 
-  pub registered_sound : (slot key base len place rights : ℕ) → Sound (domain_registered d slot key base len place rights).domain
+  pub registered_sound : (slot key base len place rights : ℕ) → Sound (domain_registered d slot key base len place rights).1
   unfolding domain_registered
   registered_sound slot key base len place rights =
       let z = with_windows_lem d _ k (registered_in_lem d.part d.windows slot key base len place rights k.windowed) in
       lastly-holds Sound (both (writes rights) (domain_shares d place len)) d _ k (λ q f. z) (λ n q. z)
 
-  pub dropped_sound : (slot : ℕ) → Sound (domain_dropped d slot).domain
+  pub dropped_sound : (slot : ℕ) → Sound (domain_dropped d slot).1
   unfolding domain_dropped
   dropped_sound slot = with_windows_lem d _ k (dropped_in_lem d.part d.windows slot k.windowed)
 
@@ -277,31 +264,31 @@ module _ (d : Domain) (k : Sound d) where
   ticked_sound = with_meter_lem d _ k
 
   -- ---- receive
-  killed_in : (inv : Invalidate) → WindowsIn d.part (killed inv d.windows)
-  killed_in NoStag = k.windowed
-  killed_in (Stag i stag) = dropped_in_lem d.part d.windows i k.windowed
+  killed_in : (inv : Option (ℕ × ℕ)) → WindowsIn d.part (killed inv d.windows)
+  killed_in None = k.windowed
+  killed_in (Some (i, stag)) = dropped_in_lem d.part d.windows i k.windowed
 
   -- what receive or an offer makes of the stream of a slot
-  lifted_sound : (slot : ℕ) (x : SegmentRead) (r : PartsReceived) → slot < 4 → Waits d.part r.stream.sends.buffers → Sound (metered_of x (lifted d slot r)).domain
+  lifted_sound : (slot : ℕ) (x : Result SegmentRead Refusal) (r : PartsReceived) → slot < 4 → Waits d.part r.stream.sends.buffers → Sound (metered_of x (lifted d slot r)).1
   lifted_sound slot x r h w =
-      with_meter_lem (lifted d slot r).domain (meter_by r.answer (segment_count x) d.meter)
+      with_meter_lem (lifted d slot r).1 (meter_by r.answer (segment_count x) d.meter)
       (with_windows_lem (with_stream d slot r.stream) _ (with_stream_lem d slot r.stream k h w) (killed_in r.invalidate))
 
-  pub received_sound : (number slot : ℕ) (input : List ℕ) → Sound (domain_receives d number slot input).domain
+  pub received_sound : (number slot : ℕ) (input : List ℕ) → Sound (domain_receives d number slot input).1
   unfolding domain_receives domain_received
   received_sound number slot input =
       let r = parts_received d.windows number (stream_at d slot) input in
       let seg = segment_read (stream_at d slot).framing.crc input in
-      picked (λ (x : Received). Sound x.domain) (holds_at d slot) _ _ (λ e. k)
-      (λ q. picked (λ (x : Received). Sound x.domain) (leb slot 3) (metered_of seg (lifted d slot r)) _
+      picked (λ (x : Result ReceiveAnswer LocalRefusal × Domain). Sound x.1) (holds_at d slot) _ _ (λ e. k)
+      (λ q. picked (λ (x : Result ReceiveAnswer LocalRefusal × Domain). Sound x.1) (leb slot 3) (metered_of seg (lifted d slot r)) _
       (λ e. let h = slot_lt slot e in lifted_sound slot seg r h (received-waits d.part (stream_at d slot) (k.waiting slot h) d.windows number input)) (λ e. k))
 
-  pub offered_sound : (number slot : ℕ) (held input : List ℕ) → Sound (domain_offered d number slot held input).domain
+  pub offered_sound : (number slot : ℕ) (held input : List ℕ) → Sound (domain_offered d number slot held input).1
   unfolding domain_offered
   offered_sound number slot held input =
       let r = parts_offered d.windows number (stream_at d slot) held input in
       let seg = segment_read (stream_at d slot).framing.crc (held ++ input) in
-      picked (λ (x : Received). Sound x.domain) (leb slot 3) (metered_of seg (lifted d slot r)) _
+      picked (λ (x : Result ReceiveAnswer LocalRefusal × Domain). Sound x.1) (leb slot 3) (metered_of seg (lifted d slot r)) _
       (λ e. let h = slot_lt slot e in lifted_sound slot seg r h (offered-waits d.part d.windows number (stream_at d slot) held input (k.waiting slot h))) (λ e. k)
 
 -- ---- over a run
@@ -345,39 +332,39 @@ reached_sound o mem rooms s r A h_a = (run_reached o mem rooms s r A h_a).sound
 -- ---- where a payload goes
 
 -- where a verdict places a payload, if it places one
-abbrev pub Placing : (ℕ → Type 0) → Verdict → Type 0
-Placing Q (VerdictRefused r) = Unit {0}
-Placing Q Nothing = Unit {0}
-Placing Q (Write at) = Q at
-Placing Q (SendMore at opcode taken) = Q at
-Placing Q (SendLast at opcode start len inv) = Q at
-Placing Q (Read r) = Unit {0}
-Placing Q (Terminate layer etype code) = Unit {0}
+abbrev pub Placing : (ℕ → Type 0) → Result Verdict Refusal → Type 0
+Placing Q (Err r) = Unit {0}
+Placing Q (Ok Nothing) = Unit {0}
+Placing Q (Ok (Write at)) = Q at
+Placing Q (Ok (SendMore at opcode taken)) = Q at
+Placing Q (Ok (SendLast at opcode start len inv)) = Q at
+Placing Q (Ok (Read r)) = Unit {0}
+Placing Q (Ok (Terminate layer etype code)) = Unit {0}
 
 -- a verdict that places n bytes places them in the part
-abbrev pub Lands : Part → Verdict → ℕ → Type 0
+abbrev pub Lands : Part → Result Verdict Refusal → ℕ → Type 0
 Lands p v n = Placing (λ at. Lies p at n) v
 
 -- the paper's rule, with no guard: "payload byte i goes to place + (TO − base) + i", "to buffer start + MO + i"
-abbrev pub ruled : ℕ → Verdict → List ℕ → List ℕ → List ℕ
-ruled start (VerdictRefused r) payload bytes = bytes
-ruled start Nothing payload bytes = bytes
-ruled start (Write at) payload bytes = put bytes (at - start) payload
-ruled start (SendMore at opcode taken) payload bytes = put bytes (at - start) payload
-ruled start (SendLast at opcode from len inv) payload bytes = put bytes (at - start) payload
-ruled start (Read r) payload bytes = bytes
-ruled start (Terminate layer etype code) payload bytes = bytes
+abbrev pub ruled : ℕ → Result Verdict Refusal → List ℕ → List ℕ → List ℕ
+ruled start (Err r) payload bytes = bytes
+ruled start (Ok Nothing) payload bytes = bytes
+ruled start (Ok (Write at)) payload bytes = put bytes (at - start) payload
+ruled start (Ok (SendMore at opcode taken)) payload bytes = put bytes (at - start) payload
+ruled start (Ok (SendLast at opcode from len inv)) payload bytes = put bytes (at - start) payload
+ruled start (Ok (Read r)) payload bytes = bytes
+ruled start (Ok (Terminate layer etype code)) payload bytes = bytes
 
-abbrev pub payload_of : List ℕ → SegmentRead → List ℕ
-payload_of input (Wait n) = []
-payload_of input (SegmentRefused r) = []
-payload_of input (TaggedSegment total h start len) = part input start len
-payload_of input (UntaggedSegment total h start len) = part input start len
+abbrev pub payload_of : List ℕ → Result SegmentRead Refusal → List ℕ
+payload_of input (Ok (Wait n)) = []
+payload_of input (Err r) = []
+payload_of input (Ok (TaggedSegment total h start len)) = part input start len
+payload_of input (Ok (UntaggedSegment total h start len)) = part input start len
 
 -- what the rule makes of the bytes of domain number, of bytes p on its stream of a slot
 abbrev pub by_rule : Domain → ℕ → ℕ → List ℕ → List ℕ → List ℕ
 by_rule d number slot p bytes =
-    let x : SegmentRead = segment_read (stream_at d slot).framing.crc p in
+    let x : (Result SegmentRead Refusal) = segment_read (stream_at d slot).framing.crc p in
     ruled d.part.start (parts_verdict d.windows number (stream_at d slot) p x) (payload_of p x) bytes
 
 -- what lies in the part is placed whole
@@ -389,20 +376,20 @@ placed-whole p at payload bytes e l =
     simp (le-leb p.start at l.0, le-leb (at - p.start + length payload) (length bytes) (omega (arith, l.0, l.1)))
 
 applied_whole :
-    (p : Part) (v : Verdict) (payload bytes : List ℕ) → length bytes ≡ p.end - p.start → Lands p v (length payload) →
+    (p : Part) (v : Result Verdict Refusal) (payload bytes : List ℕ) → length bytes ≡ p.end - p.start → Lands p v (length payload) →
     applied_bytes p.start v payload bytes ≡ ruled p.start v payload bytes
 unfolding applied_bytes
-applied_whole p (VerdictRefused r) payload bytes e l = refl
-applied_whole p Nothing payload bytes e l = refl
-applied_whole p (Write at) payload bytes e l = placed-whole p at payload bytes e l
-applied_whole p (SendMore at opcode taken) payload bytes e l = placed-whole p at payload bytes e l
-applied_whole p (SendLast at opcode start len inv) payload bytes e l = placed-whole p at payload bytes e l
-applied_whole p (Read r) payload bytes e l = refl
-applied_whole p (Terminate layer etype code) payload bytes e l = refl
+applied_whole p (Err r) payload bytes e l = refl
+applied_whole p (Ok Nothing) payload bytes e l = refl
+applied_whole p (Ok (Write at)) payload bytes e l = placed-whole p at payload bytes e l
+applied_whole p (Ok (SendMore at opcode taken)) payload bytes e l = placed-whole p at payload bytes e l
+applied_whole p (Ok (SendLast at opcode start len inv)) payload bytes e l = placed-whole p at payload bytes e l
+applied_whole p (Ok (Read r)) payload bytes e l = refl
+applied_whole p (Ok (Terminate layer etype code)) payload bytes e l = refl
 
 -- a segment that queue 0 takes: a buffer waits, and the payload ends within it
 untagged_fits :
-    (s : Stream) (msn mo n start end : ℕ) → untagged_of (queue_of s 0) 0 msn mo n ≡ UntaggedAt start end →
+    (s : Stream) (msn mo n start end : ℕ) → untagged_of (queue_of s 0) 0 msn mo n ≡ Ok (start, end) →
     (0 < s.sends.buffers.count) × (start + n ≤ (get_or s.sends.buffers.entries 0 no_buffer).len)
 unfolding untagged_of untagged_in queue_of
 untagged_fits s msn mo n start end e =
@@ -411,43 +398,44 @@ untagged_fits s msn mo n start end e =
     go :
         (a b : Bool) → ltb 0 s.sends.buffers.count ≡ b →
         (c t : Bool) → leb (mo + n) (get_or s.sends.buffers.entries 0 no_buffer).len ≡ t →
-        pick a (pick b (pick c (pick t (UntaggedAt mo (mo + n)) (UntaggedRefused message_too_long)) (UntaggedRefused invalid_mo)) (UntaggedRefused no_buffer_waits)) (UntaggedRefused invalid_msn) ≡ UntaggedAt start end →
+        pick {A = Result (ℕ × ℕ) Refusal} a (pick b (pick c (pick t (Ok (mo, (mo + n))) (Err message_too_long)) (Err invalid_mo)) (Err no_buffer_waits)) (Err invalid_msn) ≡ Ok (start, end) →
         (0 < s.sends.buffers.count) × (start + n ≤ (get_or s.sends.buffers.entries 0 no_buffer).len)
     go false b f c t g e = absurd (let no : ◌≡◌ {A = ℕ} 0 1 = cc in omega arith)
     go true false f c t g e = absurd (let no : ◌≡◌ {A = ℕ} 0 1 = cc in omega arith)
     go true true f false t g e = absurd (let no : ◌≡◌ {A = ℕ} 0 1 = cc in omega arith)
     go true true f true false g e = absurd (let no : ◌≡◌ {A = ℕ} 0 1 = cc in omega arith)
     go true true f true true g e =
-        let same : mo ≡ start = cc in
+        let pair : ◌≡◌ {A = ℕ × ℕ} (mo, mo + n) (start, end) = cc in
+        let same : mo ≡ start = ap (λ (p : ℕ × ℕ). p.0) pair in
         (ltb-true 0 s.sends.buffers.count f, omega (arith, leb-true (mo + n) (get_or s.sends.buffers.entries 0 no_buffer).len g))
 
 -- ---- a verdict, by the tests that give it
 module _ (Q : ℕ → Type 0) where
-  pick-lands : (t : Bool) (x y : Verdict) → Placing Q x → Placing Q y → Placing Q (pick t x y)
+  pick-lands : (t : Bool) (x y : Result Verdict Refusal) → Placing Q x → Placing Q y → Placing Q (pick t x y)
   pick-lands true x y f g = f
   pick-lands false x y f g = g
 
-  after-lands : (c : Control) (v : Verdict) → Placing Q v → Placing Q (after c v)
-  after-lands Valid v l = l
-  after-lands (ControlRefused r) v l = tt
+  after-lands : (c : Result ⊤ Refusal) (v : Result Verdict Refusal) → Placing Q v → Placing Q (after c v)
+  after-lands (Ok tt) v l = l
+  after-lands (Err r) v l = tt
 
   pub write-lands :
       (w : Window) (number stag to control n : ℕ) →
-      ((at : ℕ) → tagged_of w number stag to n ≡ TaggedAt at → may_write w ≡ true → Q at) →
-      (t : Tagged) → tagged_of w number stag to n ≡ t → Placing Q (write_verdict w control t)
-  write-lands w number stag to control n one (TaggedRefused r) e = tt
-  write-lands w number stag to control n one Nowhere e = after-lands (controlled control (eqb (opcode_of control) 0)) Nothing tt
-  write-lands w number stag to control n one (TaggedAt place) e =
-      after-lands (controlled control (eqb (opcode_of control) 0)) (pick (may_write w) (Write place) (VerdictRefused no_write_right)) (go (may_write w) refl)
+      ((at : ℕ) → tagged_of w number stag to n ≡ Ok (Some at) → may_write w ≡ true → Q at) →
+      (t : Result (Option ℕ) Refusal) → tagged_of w number stag to n ≡ t → Placing Q (write_verdict w control t)
+  write-lands w number stag to control n one (Err r) e = tt
+  write-lands w number stag to control n one (Ok None) e = after-lands (controlled control (eqb (opcode_of control) 0)) (Ok Nothing) tt
+  write-lands w number stag to control n one (Ok (Some place)) e =
+      after-lands (controlled control (eqb (opcode_of control) 0)) (pick (may_write w) (Ok (Write place)) (Err no_write_right)) (go (may_write w) refl)
     where
-      go : (t : Bool) → may_write w ≡ t → Placing Q (pick t (Write place) (VerdictRefused no_write_right))
+      go : (t : Bool) → may_write w ≡ t → Placing Q (pick t (Ok (Write place)) (Err no_write_right))
       go true m = one place e m
       go false m = tt
 
-  invalidated-lands : (b : Buffer) (opcode start end stag : ℕ) → Q (b.start + start) → (f : Found) → Placing Q (invalidated b opcode start end stag f)
-  invalidated-lands b opcode start end stag l Foreign = tt
-  invalidated-lands b opcode start end stag l Missing = tt
-  invalidated-lands b opcode start end stag l (Slot slot) = l
+  invalidated-lands : (b : Buffer) (opcode start end stag : ℕ) → Q (b.start + start) → (f : Result ℕ StagFault) → Placing Q (invalidated b opcode start end stag f)
+  invalidated-lands b opcode start end stag l (Err Foreign) = tt
+  invalidated-lands b opcode start end stag l (Err Missing) = tt
+  invalidated-lands b opcode start end stag l (Ok slot) = l
 
   send-lands : (w : Window) (number : ℕ) (b : Buffer) (h : UntaggedHeader) (start end : ℕ) → Q (b.start + start) → Placing Q (send_verdict w number b h start end)
   unfolding send_verdict
@@ -455,51 +443,51 @@ module _ (Q : ℕ → Type 0) where
       pick-lands h.last
       (pick (takes_stag (opcode_of h.control))
       (invalidated b (opcode_of h.control) start end h.stag (found_in w number h.stag))
-      (SendLast (b.start + start) (opcode_of h.control) b.start end NoStag))
-      (SendMore (b.start + start) (opcode_of h.control) end)
+      (Ok (SendLast (b.start + start) (opcode_of h.control) b.start end None)))
+      (Ok (SendMore (b.start + start) (opcode_of h.control) end))
       (pick-lands (takes_stag (opcode_of h.control))
       (invalidated b (opcode_of h.control) start end h.stag (found_in w number h.stag))
-      (SendLast (b.start + start) (opcode_of h.control) b.start end NoStag)
+      (Ok (SendLast (b.start + start) (opcode_of h.control) b.start end None))
       (invalidated-lands b (opcode_of h.control) start end h.stag l (found_in w number h.stag)) l)
       l
 
-  source_in_lands : (w : Window) (r : ReadRequest) (s : Span) → Placing Q (source_in w r s)
-  source_in_lands w r Wrap = tt
-  source_in_lands w r Outside = tt
-  source_in_lands w r (Inside place) = pick-lands (may_read w) (Read r) (VerdictRefused no_read_right) tt tt
+  source_in_lands : (w : Window) (r : ReadRequest) (s : Result ℕ SpanFault) → Placing Q (source_in w r s)
+  source_in_lands w r (Err Wrap) = tt
+  source_in_lands w r (Err Outside) = tt
+  source_in_lands w r (Ok place) = pick-lands (may_read w) (Ok (Read r)) (Err no_read_right) tt tt
 
-  source_lands : (w : Window) (r : ReadRequest) (f : Found) → Placing Q (source_of w r f)
-  source_lands w r Foreign = tt
-  source_lands w r Missing = tt
-  source_lands w r (Slot slot) = source_in_lands w r (spanned w r.source_to r.size)
+  source_lands : (w : Window) (r : ReadRequest) (f : Result ℕ StagFault) → Placing Q (source_of w r f)
+  source_lands w r (Err Foreign) = tt
+  source_lands w r (Err Missing) = tt
+  source_lands w r (Ok slot) = source_in_lands w r (spanned w r.source_to r.size)
 
   read_lands : (w : Window) (number : ℕ) (last : Bool) (payload : List ℕ) → Placing Q (read_verdict w number last payload)
   unfolding read_verdict
   read_lands w number last payload =
       let r = request_at payload in
       let judged = source_of w r (found_in w number r.source_stag) in
-      pick-lands (both last (eqb (length payload) 28)) (pick (eqb r.size 0) (Read r) judged) (VerdictRefused malformed)
-      (pick-lands (eqb r.size 0) (Read r) judged tt (source_lands w r (found_in w number r.source_stag))) tt
+      pick-lands (both last (eqb (length payload) 28)) (pick (eqb r.size 0) (Ok (Read r)) judged) (Err malformed)
+      (pick-lands (eqb r.size 0) (Ok (Read r)) judged tt (source_lands w r (found_in w number r.source_stag))) tt
 
   terminate-lands : (last : Bool) (payload : List ℕ) → Placing Q (terminate_verdict last payload)
   unfolding terminate_verdict
   terminate-lands last payload =
       pick-lands (both last (leb 4 (length payload)))
-      (Terminate (get_or payload 0 0 / 16) (get_or payload 0 0 % 16) (get_or payload 1 0)) (VerdictRefused malformed) tt tt
+      (Ok (Terminate (get_or payload 0 0 / 16) (get_or payload 0 0 % 16) (get_or payload 1 0))) (Err malformed) tt tt
 
   module _
       (w : Window) (number : ℕ) (s : Stream) (h : UntaggedHeader) (payload : List ℕ) (n : ℕ)
       (k : (start : ℕ) → 0 < s.sends.buffers.count → start + n ≤ (current_buffer s.sends).len → Q ((current_buffer s.sends).start + start))
     where
       message-lands :
-          (start end : ℕ) → untagged_of (queue_of s h.qn) h.qn h.msn h.mo n ≡ UntaggedAt start end →
+          (start end : ℕ) → untagged_of (queue_of s h.qn) h.qn h.msn h.mo n ≡ Ok (start, end) →
           Placing Q (message_verdict w number (current_buffer s.sends) h start end payload)
       unfolding message_verdict
       message-lands start end e = go (eqb h.qn 0) refl
         where
           first : eqb h.qn 0 ≡ true → Q ((get_or s.sends.buffers.entries 0 no_buffer).start + start)
           first q =
-              let z = untagged_fits s h.msn h.mo n start end (subst (λ (m : ℕ). untagged_of (queue_of s m) m h.msn h.mo n ≡ UntaggedAt start end) (eqb-true h.qn 0 q) e) in
+              let z = untagged_fits s h.msn h.mo n start end (subst (λ (m : ℕ). untagged_of (queue_of s m) m h.msn h.mo n ≡ Ok (start, end)) (eqb-true h.qn 0 q) e) in
               k start z.0 z.1
 
           go :
@@ -512,53 +500,53 @@ module _ (Q : ℕ → Type 0) where
               pick-lands (eqb h.qn 1) (read_verdict w number h.last payload) (terminate_verdict h.last payload)
               (read_lands w number h.last payload) (terminate-lands h.last payload)
 
-      pub untagged_lands : (u : Untagged) → untagged_of (queue_of s h.qn) h.qn h.msn h.mo n ≡ u → Placing Q (untagged_verdict w number s.sends.opcode (current_buffer s.sends) h payload u)
-      untagged_lands (UntaggedRefused r) e = tt
-      untagged_lands (UntaggedAt start end) e =
+      pub untagged_lands : (u : Result (ℕ × ℕ) Refusal) → untagged_of (queue_of s h.qn) h.qn h.msn h.mo n ≡ u → Placing Q (untagged_verdict w number s.sends.opcode (current_buffer s.sends) h payload u)
+      untagged_lands (Err r) e = tt
+      untagged_lands (Ok (start, end)) e =
           after-lands (controlled h.control (fits_queue h.qn s.sends.opcode (opcode_of h.control))) (message_verdict w number (current_buffer s.sends) h start end payload)
           (message-lands start end e)
 
 -- in a sound domain a segment that was read is judged to go into the part, or nowhere
 module _ (d : Domain) (k : Sound d) (number slot : ℕ) (h : slot < 4) (input : List ℕ) where
   pub judged_lands :
-      (s : SegmentRead) → s ≡ segment_read (stream_at d slot).framing.crc input →
+      (s : Result SegmentRead Refusal) → s ≡ segment_read (stream_at d slot).framing.crc input →
       Lands d.part (parts_verdict d.windows number (stream_at d slot) input s) (length (payload_of input s))
-  judged_lands (Wait n) e = tt
-  judged_lands (SegmentRefused r) e = tt
-  judged_lands (TaggedSegment total t start len) e =
+  judged_lands (Ok (Wait n)) e = tt
+  judged_lands (Err r) e = tt
+  judged_lands (Ok (TaggedSegment total t start len)) e =
       let w = window_at d.windows (slot_named t.stag) in
       subst (Lands d.part (tagged_verdict w number t len))
-      (sym (length_part input start len (inside (stream_at d slot).framing.crc input (TaggedSegment total t start len) e)))
+      (sym (length_part input start len (inside (stream_at d slot).framing.crc input (Ok (TaggedSegment total t start len)) e)))
       (write-lands (λ at. Lies d.part at len) w number t.stag t.to t.control len
       (λ at q m. tagged_in_lem d.part w number t.stag t.to len at (k.windowed (slot_named t.stag)) q) (tagged_of w number t.stag t.to len) refl)
-  judged_lands (UntaggedSegment total t start len) e =
+  judged_lands (Ok (UntaggedSegment total t start len)) e =
       untagged_lands (λ at. Lies d.part at (length (part input start len))) (window_at d.windows (slot_named (stag_named t (part input start len)))) number (stream_at d slot) t (part input start len) (length (part input start len))
       (λ at c f. let b = (k.waiting slot h).inside 0 c in (omega (arith, b.0), omega (arith, b.1, f)))
       (untagged_of (queue_of (stream_at d slot) t.qn) t.qn t.msn t.mo (length (part input start len))) refl
 
   module _ (bytes : List ℕ) (long : length bytes ≡ d.part.end - d.part.start) where
     segment_whole :
-        (s : SegmentRead) → s ≡ segment_read (stream_at d slot).framing.crc input →
+        (s : Result SegmentRead Refusal) → s ≡ segment_read (stream_at d slot).framing.crc input →
         parts_placed d.part d.windows number (stream_at d slot) input bytes s ≡ ruled d.part.start (parts_verdict d.windows number (stream_at d slot) input s) (payload_of input s) bytes
-    segment_whole (Wait n) e = refl
-    segment_whole (SegmentRefused r) e = refl
-    segment_whole (TaggedSegment total t start len) e =
-        applied_whole d.part (parts_verdict d.windows number (stream_at d slot) input (TaggedSegment total t start len)) (part input start len) bytes long
-        (judged_lands (TaggedSegment total t start len) e)
-    segment_whole (UntaggedSegment total t start len) e =
-        applied_whole d.part (parts_verdict d.windows number (stream_at d slot) input (UntaggedSegment total t start len)) (part input start len) bytes long
-        (judged_lands (UntaggedSegment total t start len) e)
+    segment_whole (Ok (Wait n)) e = refl
+    segment_whole (Err r) e = refl
+    segment_whole (Ok (TaggedSegment total t start len)) e =
+        applied_whole d.part (parts_verdict d.windows number (stream_at d slot) input (Ok (TaggedSegment total t start len))) (part input start len) bytes long
+        (judged_lands (Ok (TaggedSegment total t start len)) e)
+    segment_whole (Ok (UntaggedSegment total t start len)) e =
+        applied_whole d.part (parts_verdict d.windows number (stream_at d slot) input (Ok (UntaggedSegment total t start len))) (part input start len) bytes long
+        (judged_lands (Ok (UntaggedSegment total t start len)) e)
 
     -- what an open stream receives is placed by the rule alone
-    pub placed_where_judged : readiness (stream_at d slot).phase ≡ Ready → domain_received_bytes d number slot input bytes ≡ by_rule d number slot input bytes
+    pub placed_where_judged : readiness (stream_at d slot).phase ≡ (Ok tt) → domain_received_bytes d number slot input bytes ≡ by_rule d number slot input bytes
     unfolding domain_received_bytes parts_received_bytes
     placed_where_judged ready =
         ap (λ (t : Bool). pick t (parts_received_bytes d.part d.windows number (stream_at d slot) input bytes) bytes) (le-leb slot 3 (omega arith))
-        ∙ ap (λ (r : Readiness). parts_bytes_when d.part d.windows number (stream_at d slot) input bytes r) ready
+        ∙ ap (λ (r : Result ⊤ LocalRefusal). parts_bytes_when d.part d.windows number (stream_at d slot) input bytes r) ready
         ∙ segment_whole (segment_read (stream_at d slot).framing.crc input) refl
 
 -- the same of receive, where the stream holds nothing, and of an offer, with the pending bytes
-module _ (d : Domain) (k : Sound d) (number slot : ℕ) (h : slot < 4) (bytes : List ℕ) (long : length bytes ≡ d.part.end - d.part.start) (ready : readiness (stream_at d slot).phase ≡ Ready) where
+module _ (d : Domain) (k : Sound d) (number slot : ℕ) (h : slot < 4) (bytes : List ℕ) (long : length bytes ≡ d.part.end - d.part.start) (ready : readiness (stream_at d slot).phase ≡ (Ok tt)) where
   received-by_rule : (input : List ℕ) → (stream_at d slot).framing.held ≡ 0 → domain_receives_bytes d number slot input bytes ≡ by_rule d number slot input bytes
   unfolding domain_receives_bytes
   received-by_rule input none =
@@ -584,18 +572,18 @@ pub record Unguarded (w : World) (A : ℕ) : Type 0 where
   pub in_store : part_fits (domain_at w.dev A).part (length w.mem) ≡ true
   pub held_short : (slot : ℕ) → slot < 4 → HeldShort (stream_at (domain_at w.dev A) slot) ((view A w).held slot)
   pub in_part_lem :
-      (slot : ℕ) → slot < 4 → (input : List ℕ) (s : SegmentRead) → s ≡ segment_read (stream_at (domain_at w.dev A) slot).framing.crc input →
+      (slot : ℕ) → slot < 4 → (input : List ℕ) (s : Result SegmentRead Refusal) → s ≡ segment_read (stream_at (domain_at w.dev A) slot).framing.crc input →
       Lands (domain_at w.dev A).part (parts_verdict (domain_at w.dev A).windows A (stream_at (domain_at w.dev A) slot) input s) (length (payload_of input s))
   pub metered : MeterWellFormed (domain_at w.dev A).meter
   pub level_bits_lem : level_bits (domain_at w.dev A).meter.gauge.level ≡ to_bits binary64 (domain_at w.dev A).meter.gauge.level
   pub peak_bits : level_bits (domain_at w.dev A).meter.gauge.peak ≡ to_bits binary64 (domain_at w.dev A).meter.gauge.peak
   -- receive on an open stream that holds nothing
   pub by_rule_lem :
-      (slot : ℕ) → slot < 4 → (input : List ℕ) → readiness (stream_at (domain_at w.dev A) slot).phase ≡ Ready → (view A w).held slot ≡ [] →
+      (slot : ℕ) → slot < 4 → (input : List ℕ) → readiness (stream_at (domain_at w.dev A) slot).phase ≡ (Ok tt) → (view A w).held slot ≡ [] →
       domain_receives_bytes (domain_at w.dev A) A slot input (bytes_of (domain_at w.dev A) w.mem) ≡ by_rule (domain_at w.dev A) A slot input (bytes_of (domain_at w.dev A) w.mem)
   -- an offer on an open stream, of the pending bytes
   pub offered-by_rule :
-      (slot : ℕ) → slot < 4 → (input : List ℕ) → readiness (stream_at (domain_at w.dev A) slot).phase ≡ Ready →
+      (slot : ℕ) → slot < 4 → (input : List ℕ) → readiness (stream_at (domain_at w.dev A) slot).phase ≡ (Ok tt) →
       domain_offered_bytes (domain_at w.dev A) A slot ((view A w).held slot) input (bytes_of (domain_at w.dev A) w.mem)
       ≡ by_rule (domain_at w.dev A) A slot ((view A w).held slot ++ input) (bytes_of (domain_at w.dev A) w.mem)
 

@@ -14,9 +14,7 @@ use Rattle.rdmap.specs.Stream.{holding, no_stream}
 use Rattle.rdmap.specs.declared.stream.Stream.{Stream}
 use Rattle.ddp.specs.Segment.{segment_read}
 use Rattle.domain.specs.Domain.{stream_at, new_domain, metered_of, lifted}
-use Rattle.arrival.specs.declared.Answer.TheVariants.{Refused}
 use Rattle.domain.specs.declared.Domain.{Domain}
-use Rattle.domain.specs.declared.Received.{Received}
 use Rattle.arrival.specs.declared.parts.PartsReceived.{PartsReceived}
 use Rattle.cuts.specs.Received.{Short}
 use Rattle.holding.specs.Offer.{is_open, held_of, parts_offered, domain_offered, domain_offered_held}
@@ -27,6 +25,11 @@ use Rattle.holding.proofs.Held.{Waited, offered-by, judged_empties}
 use Rattle.isolation.proofs.Kept.{picked, Settles, Steady, opened_keeps, closed_keeps, posted_keeps, taken_keeps, registered_keeps, dropped_keeps, ticked_keeps, received_keeps, offered-others}
 use Rattle.isolation.proofs.Kept.Settles.{empties, stays}
 use Rattle.isolation.proofs.Openings.{none-held}
+use Rattle.std.specs.Prelude.{Err}
+use Rattle.wire.specs.declared.refusal.LocalRefusal.TheVariants.{OutOfRange}
+use Rattle.std.specs.Prelude.{Result}
+use Rattle.wire.specs.declared.refusal.LocalRefusal.{LocalRefusal}
+use Rattle.arrival.specs.declared.Answer.{Answer as ReceiveAnswer}
 
 -- a stream s holds the bytes h
 pub record HeldShort (s : Stream) (h : List ℕ) : Type 0 where
@@ -77,10 +80,10 @@ module _ (d : Domain) (four : length d.streams ≡ 4) (held : ℕ → List ℕ) 
   abbrev h : List ℕ
   h = held slot
 
-  own_short : HeldShort (stream_at (domain_offered d number slot h input).domain slot) (domain_offered_held d number slot h input)
+  own_short : HeldShort (stream_at (domain_offered d number slot h input).1 slot) (domain_offered_held d number slot h input)
   unfolding domain_offered domain_offered_held
   own_short =
-      subst (λ (b : Bool). HeldShort (stream_at (pick b x (record { answer = Refused 1; domain = d })).domain slot) (held_of h input (pick b x (record { answer = Refused 1; domain = d })).answer))
+      subst (λ (b : Bool). HeldShort (stream_at (pick b x (Err OutOfRange, d)).1 slot) (held_of h input (pick b x (Err OutOfRange, d)).0))
       (sym (le-leb slot 3 (omega (arith, l))))
       (subst (λ (t : Stream). HeldShort t (held_of h input r.answer)) (sym (get_or-set_same d.streams slot r.stream no_stream (omega (arith, l, four))))
       (offered-by (λ (x : PartsReceived). HeldShort x.stream (held_of h input x.answer)) d.windows number (stream_at d slot) h input (λ n o. k slot l) (λ n o w. waiting_short (stream_at d slot) h input o w)
@@ -89,13 +92,13 @@ module _ (d : Domain) (four : length d.streams ≡ 4) (held : ℕ → List ℕ) 
       r : PartsReceived
       r = parts_offered d.windows number (stream_at d slot) h input
 
-      x : Received
+      x : Result ReceiveAnswer LocalRefusal × Domain
       x = metered_of (segment_read (stream_at d slot).framing.crc (h ++ input)) (lifted d slot r)
 
-  pub offered_short : AllShort (domain_offered d number slot h input).domain (λ j. pick (eqb j slot) (domain_offered_held d number slot h input) (held j))
+  pub offered_short : AllShort (domain_offered d number slot h input).1 (λ j. pick (eqb j slot) (domain_offered_held d number slot h input) (held j))
   offered_short j hj =
-      picked (HeldShort (stream_at (domain_offered d number slot h input).domain j)) (eqb j slot) _ _
-      (λ e. subst (λ (i : ℕ). HeldShort (stream_at (domain_offered d number slot h input).domain i) (domain_offered_held d number slot h input)) (sym (eqb-true j slot e)) own_short)
+      picked (HeldShort (stream_at (domain_offered d number slot h input).1 j)) (eqb j slot) _ _
+      (λ e. subst (λ (i : ℕ). HeldShort (stream_at (domain_offered d number slot h input).1 i) (domain_offered_held d number slot h input)) (sym (eqb-true j slot e)) own_short)
       (λ e. subst (λ (t : Stream). HeldShort t (held j)) (sym (offered-others d number slot h input j (eqb-false j slot e))) (k j hj))
 
 -- ---- the book

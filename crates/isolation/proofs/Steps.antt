@@ -15,11 +15,9 @@ use borrow.Author.Tests.{leb-true, eq-eqb, ne_eqb, eqb-true}
 use Rattle.wire.specs.Wire.{pick, both}
 use Rattle.wire.proofs.Laws.{both_true}
 use Rattle.domain.specs.Domain.{stream_at}
-use Rattle.arrival.specs.declared.Answer.TheVariants.{Refused}
 use Rattle.domain.specs.declared.Domain.{Domain}
 use Rattle.holding.specs.Offer.{offer_answer, domain_offered, domain_offered_bytes}
 use Rattle.holding.specs.declared.OfferAnswer.{OfferAnswer}
-use Rattle.holding.specs.declared.OfferAnswer.TheVariants.{Refused as NotOffered}
 use Rattle.memory.specs.Part.{part_fits}
 use Rattle.rnic.specs.Rnic.{domain_at, with_domain, bytes_of, with_bytes, rnic_received, rnic_received_store}
 use Rattle.rnic.specs.Offer.{rooms_bytes, room_of, held_bytes, offer_asked, rnic_offered, rnic_offer_answer, rnic_offered_store, rnic_offered_rooms}
@@ -32,6 +30,9 @@ use Rattle.isolation.proofs.Kept.{Steady, settles_less, opened_keeps, closed_kee
 use Rattle.isolation.proofs.Lifted.{opened_in, opened_out, closed_in, closed_out, posted_in, posted_out, taken_in, taken_out, registered_in_lem, registered_out, dropped_in_lem, dropped_out, live_in, free_in, ticked_in, ticked_out, reading_in, state_in_lem, received_in, received_other, received_out, store_in, store_other, store_out, offered_in, offered_other, offered_out, rooms_in, rooms_other, rooms_out, offered-store_in, offered-store_other, offered-store_out}
 use Rattle.isolation.proofs.Offers.{held-is, rooms_then, offer-frame}
 use Rattle.isolation.proofs.WellFormed.{Fit, Frame, put_view, part-fits, world_path, same_bytes, memory_left, put_view-same, put_view-own, put_view_other, put_view_fit}
+use Rattle.std.specs.Prelude.{Err, Result}
+use Rattle.wire.specs.declared.refusal.LocalRefusal.{LocalRefusal}
+use Rattle.wire.specs.declared.refusal.LocalRefusal.TheVariants.{OtherLength}
 
 -- a step for domain d is the book's, put back; o is what the book says
 record Booked (d : ℕ) (w : World) (o : Observation Answer) (a : Answer) (w₁ : World) : Type 0 where
@@ -93,17 +94,17 @@ module _ (w : World) (n : ℕ) (input : List ℕ) (k : ℕ) (a : Answer) (w₁ :
   receive-own f h e = go (eqb k w.dev.len) refl s.world
     where
       go :
-          (t : Bool) → eqb k w.dev.len ≡ t → w₁ ≡ record { dev = s.result.rnic; mem = pick t s.lent.after w.mem; rooms = w.rooms } →
-          Booked (n / 4) w (pick t (book_receive (n / 4) (view (n / 4) w) n input) (record { answer = received (Refused 2); after = view (n / 4) w })) a w₁
+          (t : Bool) → eqb k w.dev.len ≡ t → w₁ ≡ record { dev = s.result.1; mem = pick t s.lent.after w.mem; rooms = w.rooms } →
+          Booked (n / 4) w (pick t (book_receive (n / 4) (view (n / 4) w) n input) (record { answer = received (Err OtherLength); after = view (n / 4) w })) a w₁
       go true g to =
           let q : k ≡ w.dev.len = eqb-true k w.dev.len g in
           let r = receive-result ∙ received_in w.dev n input k e g (part-fits w f (n / 4) h k (q ∙ sym f.long)) in
           let kept = received_keeps (domain_at w.dev (n / 4)) (n / 4) (n % 4) input in
           let l = receive_slice ∙ ap (λ (m : List ℕ). rnic_received_store w.dev n input m) (s.lent.whole q) ∙ store_in w.dev n input w.mem e (eq-eqb (length w.mem) w.dev.len f.long) (part-fits w f (n / 4) h (length w.mem) refl) in
           record {
-            answer = s.answered ∙ ap (λ x. received x.answer) r;
+            answer = s.answered ∙ ap (λ x. received x.0) r;
             rooms = w.rooms;
-            world = to ∙ world_path (ap (λ x. x.rnic) r) l refl;
+            world = to ∙ world_path (ap (λ x. x.1) r) l refl;
             frame = record {
               part = kept.part;
               many = received_many (domain_at w.dev (n / 4)) (n / 4) (n % 4) input (bytes_of (domain_at w.dev (n / 4)) w.mem);
@@ -115,15 +116,15 @@ module _ (w : World) (n : ℕ) (input : List ℕ) (k : ℕ) (a : Answer) (w₁ :
           }
       go false g to =
           let r = receive-result ∙ received_other w.dev n input k e g in
-          nothing-set (n / 4) w (received (Refused 2)) a w₁ (s.answered ∙ ap (λ x. received x.answer) r) (to ∙ world_path (ap (λ x. x.rnic) r) refl refl)
+          nothing-set (n / 4) w (received (Err OtherLength)) a w₁ (s.answered ∙ ap (λ x. received x.0) r) (to ∙ world_path (ap (λ x. x.1) r) refl refl)
 
   receive-none : leb n 15 ≡ false → w₁ ≡ w
   receive-none e = go (eqb k w.dev.len) refl s.world
     where
-      b : s.result.rnic ≡ w.dev
-      b = ap (λ x. x.rnic) receive-result ∙ received_out w.dev n input k e
+      b : s.result.1 ≡ w.dev
+      b = ap (λ x. x.1) receive-result ∙ received_out w.dev n input k e
 
-      go : (t : Bool) → eqb k w.dev.len ≡ t → w₁ ≡ record { dev = s.result.rnic; mem = pick t s.lent.after w.mem; rooms = w.rooms } → w₁ ≡ w
+      go : (t : Bool) → eqb k w.dev.len ≡ t → w₁ ≡ record { dev = s.result.1; mem = pick t s.lent.after w.mem; rooms = w.rooms } → w₁ ≡ w
       go true g to = to ∙ world_path b (receive_slice ∙ store_out w.dev n input s.lent.slice.now e ∙ s.lent.whole (eqb-true k w.dev.len g)) refl
       go false g to = to ∙ world_path b refl refl
 
@@ -135,15 +136,15 @@ module _ (w : World) (n : ℕ) (input : List ℕ) (k : ℕ) (a : Answer) (w₁ :
       g : eqb k w.dev.len ≡ false
       g = ne_eqb k w.dev.len ne
 
-      to : w₁ ≡ record { dev = s.result.rnic; mem = w.mem; rooms = w.rooms }
-      to = s.world ∙ ap (λ (t : Bool). record { dev = s.result.rnic; mem = pick t s.lent.after w.mem; rooms = w.rooms }) g
+      to : w₁ ≡ record { dev = s.result.1; mem = w.mem; rooms = w.rooms }
+      to = s.world ∙ ap (λ (t : Bool). record { dev = s.result.1; mem = pick t s.lent.after w.mem; rooms = w.rooms }) g
 
       go : (t : Bool) → leb n 15 ≡ t → w₁ ≡ w
-      go true e = to ∙ world_path (ap (λ x. x.rnic) (receive-result ∙ received_other w.dev n input k e g)) refl refl
+      go true e = to ∙ world_path (ap (λ x. x.1) (receive-result ∙ received_other w.dev n input k e g)) refl refl
       go false e = receive-none e
 
 -- ---- an offer
-module _ {R : Type 0} (form : OfferAnswer → R) (w : World) (n : ℕ) (input : List ℕ) (k m : ℕ) (x : R) (w₁ : World) (s : OfferStep form w n input k m x w₁) where
+module _ {R : Type 0} (form : Result OfferAnswer LocalRefusal → R) (w : World) (n : ℕ) (input : List ℕ) (k m : ℕ) (x : R) (w₁ : World) (s : OfferStep form w n input k m x w₁) where
   abbrev b : Rnic
   b = w.dev
 
@@ -151,7 +152,7 @@ module _ {R : Type 0} (form : OfferAnswer → R) (w : World) (n : ℕ) (input : 
   rooms = s.second.slice.now
 
   -- it leaves the device and both slices
-  offer_stays : (rnic_offered b k n rooms input).rnic ≡ b → s.store.after ≡ s.store.slice.now → s.second.after ≡ rooms → w₁ ≡ w
+  offer_stays : (rnic_offered b k n rooms input).1 ≡ b → s.store.after ≡ s.store.slice.now → s.second.after ≡ rooms → w₁ ≡ w
   offer_stays e p q = s.world ∙ world_path e (memory_left s.store p) (memory_left s.second q)
 
   offer-none : leb n 15 ≡ false → w₁ ≡ w
@@ -173,7 +174,7 @@ module _ {R : Type 0} (form : OfferAnswer → R) (w : World) (n : ℕ) (input : 
     world_stays = go (leb n 15) refl
       where
         go : (t : Bool) → leb n 15 ≡ t → w₁ ≡ w
-        go true e = offer_stays (ap (λ x. x.rnic) (offered_other b n input k rooms e unasked)) store_stays rooms_stay
+        go true e = offer_stays (ap (λ x. x.1) (offered_other b n input k rooms e unasked)) store_stays rooms_stay
         go false e = offer-none e
 
   -- lent a slice of another length, it leaves both slices and the world
@@ -197,15 +198,15 @@ module _ {R : Type 0} (form : OfferAnswer → R) (w : World) (n : ℕ) (input : 
           answer =
               told
               ∙ ap (λ (l : List ℕ). offered (rnic_offer_answer b k n l input)) whole
-              ∙ ap (λ x. offered (offer_answer (length (held_bytes b n w.rooms)) (length input) x.answer)) result
-              ∙ ap (λ (l : List ℕ). offered (offer_answer (length l) (length input) (domain_offered d (n / 4) (n % 4) l input).answer)) (sym (held-is w n));
+              ∙ ap (λ x. offered (offer_answer (length (held_bytes b n w.rooms)) (length input) x.0)) result
+              ∙ ap (λ (l : List ℕ). offered (offer_answer (length l) (length input) (domain_offered d (n / 4) (n % 4) l input).0)) (sym (held-is w n));
           rooms = rooms_then w f n low input;
           world =
               s.world
               ∙ world_path
-              (ap (λ (l : List ℕ). (rnic_offered b k n l input).rnic) whole
-              ∙ ap (λ x. x.rnic) result
-              ∙ ap (λ (l : List ℕ). with_domain b (n / 4) (domain_offered d (n / 4) (n % 4) l input).domain) (sym (held-is w n)))
+              (ap (λ (l : List ℕ). (rnic_offered b k n l input).1) whole
+              ∙ ap (λ x. x.1) result
+              ∙ ap (λ (l : List ℕ). with_domain b (n / 4) (domain_offered d (n / 4) (n % 4) l input).1) (sym (held-is w n)))
               (ap (λ (t : Bool). pick t s.store.after w.mem) (eq-eqb k b.len p)
               ∙ s.stored
               ∙ ap₂ (λ (x y : List ℕ). rnic_offered_store b n x input y) whole (s.store.whole p)
@@ -233,7 +234,7 @@ module _ {R : Type 0} (form : OfferAnswer → R) (w : World) (n : ℕ) (input : 
         fits : part_fits d.part k ≡ true
         fits = part-fits w f (n / 4) h k (p ∙ sym f.long)
 
-        result : rnic_offered b k n w.rooms input ≡ record { answer = (domain_offered d (n / 4) (n % 4) (held_bytes b n w.rooms) input).answer; rnic = with_domain b (n / 4) (domain_offered d (n / 4) (n % 4) (held_bytes b n w.rooms) input).domain }
+        result : rnic_offered b k n w.rooms input ≡ ((domain_offered d (n / 4) (n % 4) (held_bytes b n w.rooms) input).0, with_domain b (n / 4) (domain_offered d (n / 4) (n % 4) (held_bytes b n w.rooms) input).1)
         result = offered_in b n input k w.rooms e asked fits
 
     offer-own : Fit w → n / 4 < 4 → leb n 15 ≡ true → Booked (n / 4) w (book (n / 4) (view (n / 4) w) (offer n input k m)) a w₁
@@ -241,11 +242,11 @@ module _ {R : Type 0} (form : OfferAnswer → R) (w : World) (n : ℕ) (input : 
       where
         go :
             (t : Bool) → both (eqb k b.len) (eqb m rooms_bytes) ≡ t →
-            Booked (n / 4) w (pick t (book_offer (n / 4) (view (n / 4) w) n input) (record { answer = offered (NotOffered 2); after = view (n / 4) w })) a w₁
+            Booked (n / 4) w (pick t (book_offer (n / 4) (view (n / 4) w) n input) (record { answer = offered (Err OtherLength); after = view (n / 4) w })) a w₁
         go true g = let z = both_true (eqb k b.len) (eqb m rooms_bytes) g in offer-both f h e (eqb-true k b.len z.0) (eqb-true m rooms_bytes z.1)
         go false g =
-            nothing-set (n / 4) w (offered (NotOffered 2)) a w₁
-            (told ∙ ap (λ x. offered (offer_answer (length (held_bytes b n rooms)) (length input) x.answer)) (offered_other b n input k rooms e (unasked g))) (world_stays g)
+            nothing-set (n / 4) w (offered (Err OtherLength)) a w₁
+            (told ∙ ap (λ x. offered (offer_answer (length (held_bytes b n rooms)) (length input) x.0)) (offered_other b n input k rooms e (unasked g))) (world_stays g)
 
 -- ---- the one place that looks at each call
 module _ (w : World) (a : Answer) (w₁ : World) where

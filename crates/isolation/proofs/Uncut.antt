@@ -11,9 +11,9 @@ use lib.Dec.{eqb}
 use borrow.Author.Tests.{eqb-true, eq-eqb}
 use Rattle.wire.specs.Wire.{pick, both}
 use Rattle.domain.specs.Domain.{stream_at}
-use Rattle.arrival.specs.declared.Event.TheVariants.{NoEvent, Sent, SentInvalidating, Terminated}
+use Rattle.arrival.specs.declared.Event.TheVariants.{Sent, SentInvalidating, Terminated}
 use Rattle.arrival.specs.declared.Answer.{Answer as ReceiveAnswer}
-use Rattle.arrival.specs.declared.Answer.TheVariants.{Wait, Taken, Ended, Refused}
+use Rattle.arrival.specs.declared.Answer.TheVariants.{Wait, Taken, Ended}
 use Rattle.cuts.specs.Cuts.{Step, Offered, Outcome, Called, after_call, offer_of, offer as machine_offer, events_of, left_of, still, after, called, drain, joined, Answer as MachineAnswer}
 use Rattle.cuts.specs.Cuts.Step.{waits, took, ends, refuses}
 use Rattle.cuts.specs.Cuts.Answer.{refused}
@@ -24,12 +24,38 @@ use Rattle.cuts.proofs.Received.{machine}
 use Rattle.cuts.proofs.Domain.{new_holds, domain-uncut, domain_calls_same, domain_calls_law, refusal-over, terminate-over}
 use Rattle.holding.specs.Machine.{side_of, answer_of}
 use Rattle.holding.specs.Offer.{is_open, offer_answer, domain_offered, domain_offered_bytes, domain_offered_held}
-use Rattle.holding.specs.declared.OfferAnswer.TheVariants.{Refused as NotOffered}
 use Rattle.holding.proofs.Machine.{domain_of, domain_back, may_hold, offer-is, offer-holds, offer-counted, offer-refused}
 use Rattle.isolation.specs.Book.{Call, Answer, View, Observation, book_offer, book, book_trace, book_view}
 use Rattle.isolation.specs.Book.Answer.{offered}
 use Rattle.isolation.specs.Uncut.{reports_of, events_in, book_events, is_end, has_end, piece_of, rest_of, left_after, offers_of, left_over, uncut_in, uncut, ones, HoldsPart, Through, Cut, SameFor, Over}
 use Rattle.isolation.specs.Uncut.Through.{all, over}
+use Rattle.std.specs.Prelude.{Err, None, Ok, Result, Some}
+use Rattle.wire.specs.declared.refusal.LocalRefusal.{LocalRefusal}
+use Rattle.wire.specs.declared.refusal.LocalRefusal.TheVariants.{OutOfRange, OtherLength, NotOpen, AlreadyOpen, StreamEnded, WindowLive, WindowNotLive, KeyAgain, BadPlace, BuffersFull, NoReadWaits, OverLimit, NoRoom, BadStartup, Markers, HoldsBytes, SharedByte, IrdTooSmall, NoKind}
+use Rattle.wire.specs.Refusal.{refusal_number}
+
+-- 5 is the number of no other refusal
+number_five : (k : LocalRefusal) → refusal_number k ≡ 5 → k ≡ StreamEnded
+unfolding refusal_number
+number_five StreamEnded e = refl
+number_five OutOfRange e = absurd (omega (arith, e))
+number_five OtherLength e = absurd (omega (arith, e))
+number_five NotOpen e = absurd (omega (arith, e))
+number_five AlreadyOpen e = absurd (omega (arith, e))
+number_five WindowLive e = absurd (omega (arith, e))
+number_five WindowNotLive e = absurd (omega (arith, e))
+number_five KeyAgain e = absurd (omega (arith, e))
+number_five BadPlace e = absurd (omega (arith, e))
+number_five BuffersFull e = absurd (omega (arith, e))
+number_five NoReadWaits e = absurd (omega (arith, e))
+number_five OverLimit e = absurd (omega (arith, e))
+number_five NoRoom e = absurd (omega (arith, e))
+number_five BadStartup e = absurd (omega (arith, e))
+number_five Markers e = absurd (omega (arith, e))
+number_five HoldsBytes e = absurd (omega (arith, e))
+number_five SharedByte e = absurd (omega (arith, e))
+number_five IrdTooSmall e = absurd (omega (arith, e))
+number_five NoKind e = absurd (omega (arith, e))
 
 module _ (A n : ℕ) where
   abbrev slot : ℕ
@@ -52,7 +78,7 @@ module _ (A n : ℕ) where
     next = (book_offer A v n piece).after
 
     asked : call ≡ book_offer A v n piece
-    asked = ap (λ (b : Bool). pick (both b true) (book_offer A v n piece) (record { answer = offered (NotOffered 2); after = v })) (eq-eqb v.size v.size refl)
+    asked = ap (λ (b : Bool). pick (both b true) (book_offer A v n piece) (record { answer = offered (Err OtherLength); after = v })) (eq-eqb v.size v.size refl)
 
     own_held : next.held slot ≡ domain_offered_held v.dom A slot (v.held slot) piece
     own_held = ap (λ (b : Bool). pick b (domain_offered_held v.dom A slot (v.held slot) piece) (v.held slot)) (eq-eqb slot slot refl)
@@ -61,14 +87,14 @@ module _ (A n : ℕ) where
     one :
         machine_offer (machine_received A slot) (side_at v) (v.held slot) piece
         ≡ record {
-          answer = answer_of (offer_answer (length (v.held slot)) (length piece) (domain_offered v.dom A slot (v.held slot) piece).answer);
+          answer = answer_of (offer_answer (length (v.held slot)) (length piece) (domain_offered v.dom A slot (v.held slot) piece).0);
           state = side_at next;
           held = next.held slot;
         }
     one =
         offer-is v.dom A slot inside (v.held slot) piece v.bytes
         ∙ (λ i. record {
-          answer = answer_of (offer_answer (length (v.held slot)) (length piece) (domain_offered v.dom A slot (v.held slot) piece).answer);
+          answer = answer_of (offer_answer (length (v.held slot)) (length piece) (domain_offered v.dom A slot (v.held slot) piece).0);
           state = side_at next;
           held = sym own_held i;
         })
@@ -159,7 +185,7 @@ module _ (A n : ℕ) where
       go false = refl
 
   -- a local refusal leaves A's view
-  refused-same : (v : View) (piece : List ℕ) (k : ℕ) → (domain_offered v.dom A slot (v.held slot) piece).answer ≡ Refused k → call v piece ≡ record { answer = offered (NotOffered k); after = v }
+  refused-same : (v : View) (piece : List ℕ) (k : LocalRefusal) → (domain_offered v.dom A slot (v.held slot) piece).0 ≡ Err k → call v piece ≡ record { answer = offered (Err k); after = v }
   refused-same v piece k q =
       asked v piece
       ∙ (λ i. record {
@@ -168,7 +194,7 @@ module _ (A n : ℕ) where
       })
     where
       left :
-          ((domain_offered v.dom A slot (v.held slot) piece).domain ≡ v.dom)
+          ((domain_offered v.dom A slot (v.held slot) piece).1 ≡ v.dom)
           × (domain_offered_bytes v.dom A slot (v.held slot) piece v.bytes ≡ v.bytes)
           × (domain_offered_held v.dom A slot (v.held slot) piece ≡ v.held slot)
       left = offer-refused v.dom A slot inside (v.held slot) piece v.bytes k q
@@ -182,17 +208,17 @@ module _ (A n : ℕ) where
 
   -- an end of the machine is one of the book
   over_of : (v : View) (x : MachineAnswer Report) → MachineOver A slot (record { answer = x; state = side_at v; held = v.held slot }) → Over A v n
-  over_of v x o = record { empty = o.empty; later = λ piece. refused-same v piece 5 (five piece) }
+  over_of v x o = record { empty = o.empty; later = λ piece. refused-same v piece StreamEnded (five piece) }
     where
-      by : (h c : ℕ) (a : ReceiveAnswer) → answer_of (offer_answer h c a) ≡ refused 5 → a ≡ Refused 5
-      by h c (Wait m) e = absurd (let no : ◌≡◌ {A = ℕ} 0 1 = cc in omega arith)
-      by h c (Taken total f) e = absurd (let no : ◌≡◌ {A = ℕ} 0 1 = cc in omega arith)
-      by h c (Ended r) e = absurd (let no : ◌≡◌ {A = ℕ} 0 1 = cc in omega arith)
-      by h c (Refused k) e = let same : k ≡ 5 = cc in ap Refused same
+      by : (h c : ℕ) (a : Result ReceiveAnswer LocalRefusal) → answer_of (offer_answer h c a) ≡ refused 5 → a ≡ Err StreamEnded
+      by h c (Ok (Wait m)) e = absurd (let no : ◌≡◌ {A = ℕ} 0 1 = cc in omega arith)
+      by h c (Ok (Taken total f)) e = absurd (let no : ◌≡◌ {A = ℕ} 0 1 = cc in omega arith)
+      by h c (Ok (Ended r)) e = absurd (let no : ◌≡◌ {A = ℕ} 0 1 = cc in omega arith)
+      by h c (Err k) e = let same : refusal_number k ≡ 5 = cc in ap Err (number_five k same)
 
-      five : (piece : List ℕ) → (domain_offered v.dom A slot (v.held slot) piece).answer ≡ Refused 5
+      five : (piece : List ℕ) → (domain_offered v.dom A slot (v.held slot) piece).0 ≡ Err StreamEnded
       five piece =
-          by (length (v.held slot)) (length piece) (domain_offered v.dom A slot (v.held slot) piece).answer
+          by (length (v.held slot)) (length piece) (domain_offered v.dom A slot (v.held slot) piece).0
           (ap (λ (r : Offered Side Report). r.answer) (sym (one v piece) ∙ o.later piece))
 
   -- after a call that reports an end
@@ -200,23 +226,23 @@ module _ (A n : ℕ) where
   unfolding has_end
   ended-over v piece e =
       subst (λ (o : Observation Answer). Over A o.after n) (sym (asked v piece))
-      (go (domain_offered v.dom A slot (v.held slot) piece).answer refl (ap (λ (o : Observation Answer). has_end (reports_of o.answer)) (sym (asked v piece)) ∙ e))
+      (go (domain_offered v.dom A slot (v.held slot) piece).0 refl (ap (λ (o : Observation Answer). has_end (reports_of o.answer)) (sym (asked v piece)) ∙ e))
     where
       h : ℕ
       h = length (v.held slot)
 
-      go : (a : ReceiveAnswer) → (domain_offered v.dom A slot (v.held slot) piece).answer ≡ a → has_end (reports_of (offered (offer_answer h (length piece) a))) ≡ true → Over A (next v piece) n
-      go (Wait m) q t = absurd (let no : ◌≡◌ {A = ℕ} 0 1 = cc in omega arith)
-      go (Taken total NoEvent) q t = absurd (let no : ◌≡◌ {A = ℕ} 0 1 = cc in omega arith)
-      go (Taken total (Sent start len opcode)) q t = absurd (let no : ◌≡◌ {A = ℕ} 0 1 = cc in omega arith)
-      go (Taken total (SentInvalidating start len opcode stag)) q t = absurd (let no : ◌≡◌ {A = ℕ} 0 1 = cc in omega arith)
-      go (Taken total (Terminated layer etype code)) q t =
+      go : (a : Result ReceiveAnswer LocalRefusal) → (domain_offered v.dom A slot (v.held slot) piece).0 ≡ a → has_end (reports_of (offered (offer_answer h (length piece) a))) ≡ true → Over A (next v piece) n
+      go (Ok (Wait m)) q t = absurd (let no : ◌≡◌ {A = ℕ} 0 1 = cc in omega arith)
+      go (Ok (Taken total None)) q t = absurd (let no : ◌≡◌ {A = ℕ} 0 1 = cc in omega arith)
+      go (Ok (Taken total (Some (Sent start len opcode)))) q t = absurd (let no : ◌≡◌ {A = ℕ} 0 1 = cc in omega arith)
+      go (Ok (Taken total (Some (SentInvalidating start len opcode stag)))) q t = absurd (let no : ◌≡◌ {A = ℕ} 0 1 = cc in omega arith)
+      go (Ok (Taken total (Some (Terminated layer etype code)))) q t =
           over_of (next v piece) _ (subst (MachineOver A slot) (one v piece)
-          (terminate-over A slot (side_at v) (v.held slot) piece (total - h) layer etype code (ap (λ (r : Offered Side Report). r.answer) (one v piece) ∙ ap (λ (a : ReceiveAnswer). answer_of (offer_answer h (length piece) a)) q)))
-      go (Ended r) q t =
+          (terminate-over A slot (side_at v) (v.held slot) piece (total - h) layer etype code (ap (λ (r : Offered Side Report). r.answer) (one v piece) ∙ ap (λ (a : Result ReceiveAnswer LocalRefusal). answer_of (offer_answer h (length piece) a)) q)))
+      go (Ok (Ended r)) q t =
           over_of (next v piece) _ (subst (MachineOver A slot) (one v piece)
-          (refusal-over A slot (side_at v) (v.held slot) piece (refusal r) (ap (λ (r : Offered Side Report). r.answer) (one v piece) ∙ ap (λ (a : ReceiveAnswer). answer_of (offer_answer h (length piece) a)) q)))
-      go (Refused k) q t = absurd (let no : ◌≡◌ {A = ℕ} 0 1 = cc in omega arith)
+          (refusal-over A slot (side_at v) (v.held slot) piece (refusal r) (ap (λ (r : Offered Side Report). r.answer) (one v piece) ∙ ap (λ (a : Result ReceiveAnswer LocalRefusal). answer_of (offer_answer h (length piece) a)) q)))
+      go (Err k) q t = absurd (let no : ◌≡◌ {A = ℕ} 0 1 = cc in omega arith)
 
   -- later offers report nothing and leave A's view
   pub over_calls : (cs : List ℕ) (v : View) (bytes : List ℕ) → Over A v n → (book_events A v (offers_of A v n bytes cs) ≡ []) × (book_view A v (offers_of A v n bytes cs) ≡ v)
@@ -258,15 +284,15 @@ module _ (A n : ℕ) where
 
   -- of a stream that ended the machine refuses whatever comes
   over-shut : (v : View) → Over A v n → Shut (machine A slot) (side_at v) 5
-  unfolding machine_offer
+  unfolding machine_offer refusal_number
   over-shut v o q =
       by (machine_received A slot (side_at v) q)
       (ap (λ (l : List ℕ). (machine_offer (machine_received A slot) (side_at v) l q).answer) (sym o.empty)
       ∙ ap (λ (r : Offered Side Report). r.answer) (one v q)
       ∙ ap answer_of (answered q))
     where
-      answered : (q : List ℕ) → offer_answer (length (v.held slot)) (length q) (domain_offered v.dom A slot (v.held slot) q).answer ≡ NotOffered 5
-      answered q = let e : (book_offer A v n q).answer ≡ offered (NotOffered 5) = ap (λ (x : Observation Answer). x.answer) (sym (asked v q) ∙ o.later q) in cc
+      answered : (q : List ℕ) → offer_answer (length (v.held slot)) (length q) (domain_offered v.dom A slot (v.held slot) q).0 ≡ Err StreamEnded
+      answered q = let e : (book_offer A v n q).answer ≡ offered (Err StreamEnded) = ap (λ (x : Observation Answer). x.answer) (sym (asked v q) ∙ o.later q) in cc
 
       by : (x : Step Side Report) → (offer_of (side_at v) [] q x).answer ≡ refused 5 → x ≡ refuses 5
       by waits e = absurd (let no : ◌≡◌ {A = ℕ} 0 1 = cc in omega arith)
@@ -321,19 +347,19 @@ module _ (A n : ℕ) where
   -- a call takes at least one byte, where there is one
   rest_shorter : (v : View) (b : ℕ) (p : List ℕ) → HoldsPart A v n → length (rest_of (call v (b ∷ p)).answer (b ∷ p)) ≤ length p
   rest_shorter v b p h =
-      subst (λ (o : Observation Answer). length (rest_of o.answer (b ∷ p)) ≤ length p) (sym (asked v (b ∷ p))) (go (domain_offered v.dom A slot (v.held slot) (b ∷ p)).answer refl)
+      subst (λ (o : Observation Answer). length (rest_of o.answer (b ∷ p)) ≤ length p) (sym (asked v (b ∷ p))) (go (domain_offered v.dom A slot (v.held slot) (b ∷ p)).0 refl)
     where
       held : ℕ
       held = length (v.held slot)
 
-      go : (a : ReceiveAnswer) → (domain_offered v.dom A slot (v.held slot) (b ∷ p)).answer ≡ a → length (left_of (answer_of (offer_answer held (length (b ∷ p)) a)) (b ∷ p)) ≤ length p
-      go (Wait m) q = omega (arith, length-drop (length (b ∷ p)) (b ∷ p))
-      go (Taken total e) q =
+      go : (a : Result ReceiveAnswer LocalRefusal) → (domain_offered v.dom A slot (v.held slot) (b ∷ p)).0 ≡ a → length (left_of (answer_of (offer_answer held (length (b ∷ p)) a)) (b ∷ p)) ≤ length p
+      go (Ok (Wait m)) q = omega (arith, length-drop (length (b ∷ p)) (b ∷ p))
+      go (Ok (Taken total e)) q =
           let took = offer_count (machine A slot) (side_at v) (v.held slot) (b ∷ p) (total - held) (event e) h.part
-          (ap (λ (r : Offered Side Report). r.answer) (one v (b ∷ p)) ∙ ap (λ (a : ReceiveAnswer). answer_of (offer_answer held (length (b ∷ p)) a)) q) in
+          (ap (λ (r : Offered Side Report). r.answer) (one v (b ∷ p)) ∙ ap (λ (a : Result ReceiveAnswer LocalRefusal). answer_of (offer_answer held (length (b ∷ p)) a)) q) in
           omega (arith, length-drop (total - held) (b ∷ p), took.0)
-      go (Ended r) q = omega arith
-      go (Refused k) q = omega arith
+      go (Ok (Ended r)) q = omega arith
+      go (Err k) q = omega arith
 
   nil_of : (l : List ℕ) → length l ≤ 0 → l ≡ []
   nil_of [] h = refl

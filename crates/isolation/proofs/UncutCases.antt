@@ -31,6 +31,7 @@ use Rattle.isolation.specs.Book.{Call, View, book_trace, book_view}
 use Rattle.isolation.specs.Uncut.{events_in, book_events, has_end, offers_of, left_over, uncut, ones, HoldsPart, SameFor, Cut}
 use Rattle.isolation.specs.Uncut.Through.{all, over}
 use Rattle.isolation.proofs.Uncut.{cut-same, cut-uncut, bytes_cut}
+use Rattle.std.specs.Prelude.{Some}
 
 -- a store of 200 bytes, of which domain 1 has those from 64 to 128; its stream 1 is open with the CRC off, expects MSN 5 and has a buffer of
 -- 16 bytes at 72
@@ -77,11 +78,11 @@ counts = 1 ∷ 28 ∷ 31 ∷ 31 ∷ []
 abbrev pub Came : List Call → List Report → List ℕ → Type 0
 Came calls events held = (book_events 1 start calls ≡ events) × ((book_view 1 start calls).bytes ≡ put start.bytes 8 (10 ∷ 20 ∷ 30 ∷ [])) × ((book_view 1 start calls).held 1 ≡ held)
 
-pub begun_case : Came (offers_of 1 start 5 begun counts) (event (Sent 72 3 3) ∷ []) (0 ∷ 21 ∷ 65 ∷ [])
+pub begun_case : Came (offers_of 1 start 5 begun counts) (event (Some (Sent 72 3 3)) ∷ []) (0 ∷ 21 ∷ 65 ∷ [])
 unfolding events_in book_trace book_view offers_of domain_offered domain_offered_bytes domain_offered_held parts_offered parts_offered_bytes parts_received parts_received_bytes parts_applied placed_from applied_bytes segment_read fpdu_read fpdu_read_of header_read tagged_read untagged_read tagged_fields untagged_fields untagged_of untagged_in queue_of message_verdict send_verdict terminate_verdict placed fits popped_of
 begun_case = (refl, refl, refl)
 
-pub ended_case : Came (offers_of 1 start 5 ended counts) (event (Sent 72 3 3) ∷ event (Terminated 1 1 5) ∷ []) []
+pub ended_case : Came (offers_of 1 start 5 ended counts) (event (Some (Sent 72 3 3)) ∷ event (Some (Terminated 1 1 5)) ∷ []) []
 unfolding events_in book_trace book_view offers_of domain_offered domain_offered_bytes domain_offered_held parts_offered parts_offered_bytes parts_received parts_received_bytes parts_applied placed_from applied_bytes segment_read fpdu_read fpdu_read_of header_read tagged_read untagged_read tagged_fields untagged_fields untagged_of untagged_in queue_of message_verdict send_verdict terminate_verdict placed fits popped_of
 ended_case = (refl, refl, refl)
 
@@ -114,14 +115,14 @@ module _ (bytes : List ℕ) (events : List Report) (held : List ℕ) (cut : Cut 
       let each : List Call = offers_of 1 start 5 bytes (ones bytes) in
       moved calls each (cut-same 1 5 start bytes start-holds calls each cut (bytes_cut 1 5 start bytes start-holds)) events held came
 
-pub begun-uncut : Came (uncut 1 start 5 begun) (event (Sent 72 3 3) ∷ []) (0 ∷ 21 ∷ 65 ∷ [])
-begun-uncut = uncut_came begun (event (Sent 72 3 3) ∷ []) (0 ∷ 21 ∷ 65 ∷ []) begun-cut begun_case
+pub begun-uncut : Came (uncut 1 start 5 begun) (event (Some (Sent 72 3 3)) ∷ []) (0 ∷ 21 ∷ 65 ∷ [])
+begun-uncut = uncut_came begun (event (Some (Sent 72 3 3)) ∷ []) (0 ∷ 21 ∷ 65 ∷ []) begun-cut begun_case
 
-pub begun-bytes : Came (offers_of 1 start 5 begun (ones begun)) (event (Sent 72 3 3) ∷ []) (0 ∷ 21 ∷ 65 ∷ [])
-begun-bytes = bytes_came begun (event (Sent 72 3 3) ∷ []) (0 ∷ 21 ∷ 65 ∷ []) begun-cut begun_case
+pub begun-bytes : Came (offers_of 1 start 5 begun (ones begun)) (event (Some (Sent 72 3 3)) ∷ []) (0 ∷ 21 ∷ 65 ∷ [])
+begun-bytes = bytes_came begun (event (Some (Sent 72 3 3)) ∷ []) (0 ∷ 21 ∷ 65 ∷ []) begun-cut begun_case
 
-pub ended-uncut : Came (uncut 1 start 5 ended) (event (Sent 72 3 3) ∷ event (Terminated 1 1 5) ∷ []) []
-ended-uncut = uncut_came ended (event (Sent 72 3 3) ∷ event (Terminated 1 1 5) ∷ []) [] ended-cut ended_case
+pub ended-uncut : Came (uncut 1 start 5 ended) (event (Some (Sent 72 3 3)) ∷ event (Some (Terminated 1 1 5)) ∷ []) []
+ended-uncut = uncut_came ended (event (Some (Sent 72 3 3)) ∷ event (Some (Terminated 1 1 5)) ∷ []) [] ended-cut ended_case
 
-pub ended-bytes : Came (offers_of 1 start 5 ended (ones ended)) (event (Sent 72 3 3) ∷ event (Terminated 1 1 5) ∷ []) []
-ended-bytes = bytes_came ended (event (Sent 72 3 3) ∷ event (Terminated 1 1 5) ∷ []) [] ended-cut ended_case
+pub ended-bytes : Came (offers_of 1 start 5 ended (ones ended)) (event (Some (Sent 72 3 3)) ∷ event (Some (Terminated 1 1 5)) ∷ []) []
+ended-bytes = bytes_came ended (event (Some (Sent 72 3 3)) ∷ event (Some (Terminated 1 1 5)) ∷ []) [] ended-cut ended_case

@@ -6,15 +6,9 @@ use mathlib.Core.Path.{◌≡◌, refl, sym, ap, ap₂, subst, ◌∙◌}
 use mathlib.Core.Bool.{true}
 use mathlib.Core.List.{List, [], ◌∷◌, ◌++◌}
 use native.Mathlib.Omega.{arith}
-use Rattle.memory.specs.declared.part.Outcome.TheVariants.{Done, Refused as NotDone}
-use Rattle.rdmap.specs.declared.stream.CloseAnswer.TheVariants.{Closed, Refused as NotClosed}
-use Rattle.rdmap.specs.declared.stream.TakeAnswer.TheVariants.{Read, Refused as NotTaken}
-use Rattle.rdmap.specs.declared.stream.StateAnswer.TheVariants.{Closed as StateClosed, Open as StateOpen, Ended as StateEnded, Terminated as StateTerminated, Refused as NotStated}
-use Rattle.arrival.specs.declared.Event.TheVariants.{NoEvent, Sent, SentInvalidating, Terminated}
-use Rattle.arrival.specs.declared.Answer.TheVariants.{Wait, Taken, Ended, Refused}
-use Rattle.holding.specs.declared.OfferAnswer.TheVariants.{Kept, Completed, Ended as OfferEnded, Refused as NotOffered}
-use Rattle.rnic.specs.declared.Count.TheVariants.{Counted, Refused as NotCounted}
-use Rattle.rnic.specs.declared.ReadingAnswer.TheVariants.{Reads, Refused as NotRead}
+use Rattle.arrival.specs.declared.Event.TheVariants.{Sent, SentInvalidating, Terminated}
+use Rattle.arrival.specs.declared.Answer.TheVariants.{Wait, Taken, Ended}
+use Rattle.holding.specs.declared.OfferAnswer.TheVariants.{Kept, Completed, Ended as OfferEnded}
 use Rattle.meter.specs.declared.gauge.Reading.TheVariants.{Quiet, Steady, Falling}
 use Rattle.cuts.specs.Received.{Report}
 use Rattle.isolation.specs.Book.{Call, Answer, View, Observation, Opening, book, book_trace, book_view}
@@ -30,6 +24,8 @@ use Rattle.isolation.proofs.Reachable.{guards_never_fire}
 use Rattle.isolation.proofs.Runs.{Interface, Run, OpenedRun, functions, calls_of, trace}
 use Rattle.isolation.proofs.Uncut.{calls_over, cut-uncut, holds-part}
 use Rattle.isolation.proofs.WellFormed.{Fit}
+use Rattle.std.specs.Prelude.{Err, None, Ok, Some}
+use Rattle.rdmap.specs.declared.stream.State.TheVariants.{Closed as StateClosed, Ended as StateEnded, Open as StateOpen, Terminated as StateTerminated}
 
 -- the events that the replies of an interface report
 pub record Reporting (I : Interface) : Type 0 where
@@ -149,37 +145,37 @@ over-by-functions = cuts_over functions function_reports
 -- for calls by number and offers, with answers in words
 pub words_exact : (a : Answer) → reports_in_words (reply_words a) ≡ reports_of a
 unfolding reports_in_words
-words_exact (done Done) = refl
-words_exact (done (NotDone k)) = refl
-words_exact (closed (Closed buffers reads)) = refl
-words_exact (closed (NotClosed k)) = refl
-words_exact (received (Wait n)) = refl
-words_exact (received (Taken total NoEvent)) = refl
-words_exact (received (Taken total (Sent start len opcode))) = refl
-words_exact (received (Taken total (SentInvalidating start len opcode stag))) = refl
-words_exact (received (Taken total (Terminated layer etype code))) = refl
-words_exact (received (Ended r)) = refl
-words_exact (received (Refused k)) = refl
-words_exact (offered (Kept n)) = refl
-words_exact (offered (Completed count total NoEvent)) = refl
-words_exact (offered (Completed count total (Sent start len opcode))) = refl
-words_exact (offered (Completed count total (SentInvalidating start len opcode stag))) = refl
-words_exact (offered (Completed count total (Terminated layer etype code))) = refl
-words_exact (offered (OfferEnded r)) = refl
-words_exact (offered (NotOffered k)) = refl
-words_exact (taken (Read r)) = refl
-words_exact (taken (NotTaken k)) = refl
-words_exact (counted (Counted n)) = refl
-words_exact (counted (NotCounted k)) = refl
-words_exact (gauge_read (Reads Quiet)) = refl
-words_exact (gauge_read (Reads (Steady level))) = refl
-words_exact (gauge_read (Reads (Falling level peak))) = refl
-words_exact (gauge_read (NotRead k)) = refl
-words_exact (stated StateClosed) = refl
-words_exact (stated (StateOpen buffers reads)) = refl
-words_exact (stated (StateEnded r buffers reads)) = refl
-words_exact (stated (StateTerminated buffers reads)) = refl
-words_exact (stated (NotStated k)) = refl
+words_exact (done (Ok tt)) = refl
+words_exact (done (Err k)) = refl
+words_exact (closed (Ok left)) = refl
+words_exact (closed (Err k)) = refl
+words_exact (received (Ok (Wait n))) = refl
+words_exact (received (Ok (Taken total None))) = refl
+words_exact (received (Ok (Taken total (Some (Sent start len opcode))))) = refl
+words_exact (received (Ok (Taken total (Some (SentInvalidating start len opcode stag))))) = refl
+words_exact (received (Ok (Taken total (Some (Terminated layer etype code))))) = refl
+words_exact (received (Ok (Ended r))) = refl
+words_exact (received (Err k)) = refl
+words_exact (offered (Ok (Kept n))) = refl
+words_exact (offered (Ok (Completed count total None))) = refl
+words_exact (offered (Ok (Completed count total (Some (Sent start len opcode))))) = refl
+words_exact (offered (Ok (Completed count total (Some (SentInvalidating start len opcode stag))))) = refl
+words_exact (offered (Ok (Completed count total (Some (Terminated layer etype code))))) = refl
+words_exact (offered (Ok (OfferEnded r))) = refl
+words_exact (offered (Err k)) = refl
+words_exact (taken (Ok r)) = refl
+words_exact (taken (Err k)) = refl
+words_exact (counted (Ok n)) = refl
+words_exact (counted (Err k)) = refl
+words_exact (gauge_read (Ok Quiet)) = refl
+words_exact (gauge_read (Ok (Steady level))) = refl
+words_exact (gauge_read (Ok (Falling level peak))) = refl
+words_exact (gauge_read (Err k)) = refl
+words_exact (stated (Ok StateClosed)) = refl
+words_exact (stated (Ok (StateOpen buffers reads))) = refl
+words_exact (stated (Ok (StateEnded r buffers reads))) = refl
+words_exact (stated (Ok (StateTerminated buffers reads))) = refl
+words_exact (stated (Err k)) = refl
 
 abbrev pub word_reports : Reporting numbers
 word_reports = record { reports = reports_in_words; exact = words_exact }

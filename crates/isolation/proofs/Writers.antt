@@ -16,27 +16,17 @@ use Rattle.memory.specs.Part.{in_part}
 use Rattle.memory.specs.Window.{no_window, window_at, in_range, window_fits, keeping, refusing, entering, registered_in, registered, dead_of, dropped_in, dropped}
 use Rattle.memory.specs.Buffer.{no_buffer, appended, posted, popped_of}
 use Rattle.memory.specs.declared.part.Part.{Part}
-use Rattle.memory.specs.declared.part.Outcome.TheVariants.{Done, Refused as NotDone}
 use Rattle.memory.specs.declared.buffer.Buffer.{Buffer}
 use Rattle.memory.specs.declared.buffer.Buffers.{Buffers}
-use Rattle.memory.specs.declared.buffer.Posted.{Posted}
 use Rattle.memory.specs.declared.window.Window.{Window}
-use Rattle.memory.specs.declared.window.WindowDone.{WindowDone}
 use Rattle.ddp.specs.Segment.{segment_read}
 use Rattle.ddp.specs.declared.segment.SegmentRead.{SegmentRead}
 use Rattle.rdmap.specs.Phase.{is_closed, readiness}
 use Rattle.rdmap.specs.Sends.{no_buffers}
 use Rattle.rdmap.specs.Stream.{closed_stream, with_sends, holding, opened, closed, posted_when, posted_on, taken_when, taken_from, no_stream}
-use Rattle.rdmap.specs.declared.message.Invalidate.{Invalidate}
-use Rattle.rdmap.specs.declared.message.Invalidate.TheVariants.{NoStag, Stag}
 use Rattle.rdmap.specs.declared.message.Verdict.{Verdict}
-use Rattle.rdmap.specs.declared.message.Verdict.TheVariants.{Refused as VerdictRefused, Nothing, Write, SendMore, SendLast, Read, Terminate}
-use Rattle.rdmap.specs.declared.phase.Readiness.{Readiness}
-use Rattle.rdmap.specs.declared.phase.Readiness.TheVariants.{Ready, NotReady}
+use Rattle.rdmap.specs.declared.message.Verdict.TheVariants.{Nothing, Write, SendMore, SendLast, Read, Terminate}
 use Rattle.rdmap.specs.declared.stream.Stream.{Stream}
-use Rattle.rdmap.specs.declared.stream.StreamDone.{StreamDone}
-use Rattle.rdmap.specs.declared.stream.StreamClosed.{StreamClosed}
-use Rattle.rdmap.specs.declared.stream.StreamTaken.{StreamTaken}
 use Rattle.meter.specs.declared.Meter.{Meter}
 use Rattle.meter.specs.Gauge.{ticked_meter}
 use Rattle.domain.specs.Domain.{stream_at, with_stream, with_windows, with_meter, new_domain, domain_opened, domain_closed, domain_posted, domain_taken, domain_registered, domain_dropped, domain_ticked, meter_by, segment_count, metered_of, domain_received, lifted}
@@ -44,10 +34,6 @@ use Rattle.arrival.specs.Parts.{parts_applied, parts_judged, parts_answered, par
 use Rattle.overlap.specs.Sharing.{either, shares, writes, writable, window_shares, windows_share, waiting, buffers_share, streams_share}
 use Rattle.domain.specs.Sharing.{domain_shares, lastly}
 use Rattle.domain.specs.declared.Domain.{Domain}
-use Rattle.domain.specs.declared.DomainDone.{DomainDone}
-use Rattle.domain.specs.declared.DomainClosed.{DomainClosed}
-use Rattle.domain.specs.declared.DomainTaken.{DomainTaken}
-use Rattle.domain.specs.declared.Received.{Received}
 use Rattle.arrival.specs.declared.parts.PartsReceived.{PartsReceived}
 use Rattle.arrival.specs.declared.parts.Judged.{Judged}
 use Rattle.arrival.specs.declared.parts.Judged.TheVariants.{Wait as JudgedWait, Fpdu}
@@ -57,6 +43,13 @@ use Rattle.isolation.specs.Writers.Writer.{window, buffer}
 use Rattle.holding.proofs.Held.{offered-by}
 use Rattle.isolation.proofs.Kept.{picked, lastly-holds}
 use Rattle.isolation.proofs.Reachable.{Sound, none-live, slot_lt}
+use Rattle.std.specs.Prelude.{Err, None, Ok, Option, Result, Some, ⊤}
+use Rattle.ddp.specs.declared.refusal.Refusal.{Refusal}
+use Rattle.wire.specs.declared.refusal.LocalRefusal.{LocalRefusal}
+use Rattle.wire.specs.declared.refusal.LocalRefusal.TheVariants.{BadPlace, BuffersFull, KeyAgain, OutOfRange, WindowLive, WindowNotLive}
+use Rattle.rdmap.specs.declared.stream.Left.{Left}
+use Rattle.rdmap.specs.declared.read.ReadRequest.{ReadRequest}
+use Rattle.arrival.specs.declared.Answer.{Answer}
 
 -- ---- a byte in common
 
@@ -268,40 +261,40 @@ module _ (s : Stream) where
   less_same : Less s s
   less_same = (0, shifted_same s.sends.buffers)
 
-  opened_less : (crc : Bool) → Less s (opened s crc).stream
+  opened_less : (crc : Bool) → Less s (opened s crc).1
   unfolding opened
-  opened_less crc = picked (λ (r : StreamDone). Less s r.stream) (is_closed s.phase) _ _ (λ e. (0, shifted_none s.sends.buffers)) (λ e. less_same)
+  opened_less crc = picked (λ (r : Result ⊤ LocalRefusal × Stream). Less s r.1) (is_closed s.phase) _ _ (λ e. (0, shifted_none s.sends.buffers)) (λ e. less_same)
 
-  closed_less : Less s (closed s).stream
+  closed_less : Less s (closed s).1
   unfolding closed
-  closed_less = picked (λ (r : StreamClosed). Less s r.stream) (is_closed s.phase) _ _ (λ e. less_same) (λ e. (0, shifted_none s.sends.buffers))
+  closed_less = picked (λ (r : Result Left LocalRefusal × Stream). Less s r.1) (is_closed s.phase) _ _ (λ e. less_same) (λ e. (0, shifted_none s.sends.buffers))
 
-  taken_when_less : (r : Readiness) → Less s (taken_when s r).stream
-  taken_when_less Ready = picked (λ (r : StreamTaken). Less s r.stream) (eqb s.reads.count 0) _ _ (λ e. less_same) (λ e. less_same)
-  taken_when_less (NotReady k) = less_same
+  taken_when_less : (r : Result ⊤ LocalRefusal) → Less s (taken_when s r).1
+  taken_when_less (Ok tt) = picked (λ (r : Result ReadRequest LocalRefusal × Stream). Less s r.1) (eqb s.reads.count 0) _ _ (λ e. less_same) (λ e. less_same)
+  taken_when_less (Err k) = less_same
 
-  taken_less : Less s (taken_from s).stream
+  taken_less : Less s (taken_from s).1
   unfolding taken_from
   taken_less = taken_when_less (readiness s.phase)
 
   module _ (fits : s.sends.buffers.count ≤ length s.sends.buffers.entries) where
-    applied_less : (total : ℕ) (v : Verdict) → Less s (parts_applied s total v).stream
+    applied_less : (total : ℕ) (v : Result Verdict Refusal) → Less s (parts_applied s total v).stream
     unfolding parts_applied
-    applied_less total (VerdictRefused r) = less_same
-    applied_less total Nothing = less_same
-    applied_less total (Write at) = less_same
-    applied_less total (SendMore at opcode taken) = less_same
-    applied_less total (SendLast at opcode start len inv) = (1, shifted_popped s.sends.buffers fits)
-    applied_less total (Read r) = less_same
-    applied_less total (Terminate layer etype code) = less_same
+    applied_less total (Err r) = less_same
+    applied_less total (Ok Nothing) = less_same
+    applied_less total (Ok (Write at)) = less_same
+    applied_less total (Ok (SendMore at opcode taken)) = less_same
+    applied_less total (Ok (SendLast at opcode start len inv)) = (1, shifted_popped s.sends.buffers fits)
+    applied_less total (Ok (Read r)) = less_same
+    applied_less total (Ok (Terminate layer etype code)) = less_same
 
     answered_less : (j : Judged) → Less s (parts_answered s j).stream
     answered_less (JudgedWait n) = less_same
     answered_less (Fpdu total v) = applied_less total v
 
-    when_less : (ws : List Window) (number : ℕ) (input : List ℕ) (r : Readiness) → Less s (parts_when ws number s input r).stream
-    when_less ws number input Ready = answered_less (parts_judged ws number s input (segment_read s.framing.crc input))
-    when_less ws number input (NotReady n) = less_same
+    when_less : (ws : List Window) (number : ℕ) (input : List ℕ) (r : Result ⊤ LocalRefusal) → Less s (parts_when ws number s input r).stream
+    when_less ws number input (Ok tt) = answered_less (parts_judged ws number s input (segment_read s.framing.crc input))
+    when_less ws number input (Err n) = less_same
 
     received_less : (ws : List Window) (number : ℕ) (input : List ℕ) → Less s (parts_received ws number s input).stream
     unfolding parts_received
@@ -361,7 +354,7 @@ set_fewer d slot w f = windows_fewer d (set d.windows slot w) (λ i. go i (dec_l
         subst (λ (n : ℕ). Kept n (window_at (set d.windows slot w) n)) (sym e)
         (subst (Kept slot) (sym (get_or-set_same d.windows slot w no_window h)) f)
 
-dropped_fewer : (d : Domain) (slot : ℕ) → Fewer d (with_windows d (dropped d.windows slot).windows)
+dropped_fewer : (d : Domain) (slot : ℕ) → Fewer d (with_windows d (dropped d.windows slot).1)
 unfolding dropped dropped_in
 dropped_fewer d slot = go (leb slot 15) (window_at d.windows slot).live
   where
@@ -372,15 +365,15 @@ dropped_fewer d slot = go (leb slot 15) (window_at d.windows slot).live
         (s t : Bool) →
         Fewer d
         (with_windows d
-        (pick s (entering d.windows slot (pick {A = WindowDone} t (record { outcome = Done; window = dead_of w }) (keeping w 7))) (refusing d.windows 1)
-        ).windows)
+        (pick s (entering d.windows slot (pick {A = (Result ⊤ LocalRefusal × Window)} t (Ok tt, dead_of w) (keeping w WindowNotLive))) (refusing d.windows OutOfRange)
+        ).1)
     go false t = windows_fewer d d.windows (λ i e. refl)
     go true false = set_fewer d slot w (λ e. refl)
     go true true = set_fewer d slot (dead_of w) (λ e. let no : ◌≡◌ {A = ℕ} 0 1 = cc in absurd (omega arith))
 
-killed_fewer : (d : Domain) (inv : Invalidate) → Fewer d (with_windows d (killed inv d.windows))
-killed_fewer d NoStag = windows_fewer d d.windows (λ i e. refl)
-killed_fewer d (Stag i stag) = dropped_fewer d i
+killed_fewer : (d : Domain) (inv : Option (ℕ × ℕ)) → Fewer d (with_windows d (killed inv d.windows))
+killed_fewer d None = windows_fewer d d.windows (λ i e. refl)
+killed_fewer d (Some (i, stag)) = dropped_fewer d i
 
 -- a meter is no writer
 meter_fewer : (d : Domain) (m : Meter) → Fewer d (with_meter d m)
@@ -391,19 +384,19 @@ abbrev live_of : ℕ → ℕ → ℕ → ℕ → ℕ → Window
 live_of key base len place rights = record { live = true; key = key; rights = rights; place = place; len = len; base = base }
 
 registered-by :
-    (P : WindowDone → Type 0) (w : Window) (p : Part) (key base len place rights : ℕ) →
-    ((n : ℕ) → P (keeping w n)) → P (record { outcome = Done; window = live_of key base len place rights }) →
+    (P : (Result ⊤ LocalRefusal × Window) → Type 0) (w : Window) (p : Part) (key base len place rights : ℕ) →
+    ((n : LocalRefusal) → P (keeping w n)) → P (Ok tt, live_of key base len place rights) →
     P (registered_in w p key base len place rights)
 unfolding registered_in
 registered-by P w p key base len place rights refused done = go (in_range key rights) w.live (eqb key w.key) (window_fits p place base len)
   where
     go :
         (a b c d : Bool) →
-        P (pick a (pick b (keeping w 6) (pick c (keeping w 8) (pick d (record { outcome = Done; window = live_of key base len place rights }) (keeping w 9)))) (keeping w 1))
-    go false b c d = refused 1
-    go true true c d = refused 6
-    go true false true d = refused 8
-    go true false false false = refused 9
+        P (pick a (pick b (keeping w WindowLive) (pick c (keeping w KeyAgain) (pick d (Ok tt, live_of key base len place rights) (keeping w BadPlace)))) (keeping w OutOfRange))
+    go false b c d = refused OutOfRange
+    go true true c d = refused WindowLive
+    go true false true d = refused KeyAgain
+    go true false false false = refused BadPlace
     go true false false true = done
 
 -- a window in a slot, which writes and shares no byte
@@ -442,9 +435,9 @@ registered-window d slot key base len place rights e p = go (writes rights) refl
 
 -- ---- posting, by its tests
 posted-by :
-    (P : Posted → Type 0) (bs : Buffers) (p : Part) (start len : ℕ) →
-    ((n : ℕ) → P (record { outcome = NotDone n; buffers = bs })) →
-    (bs.count < 8 → P (record { outcome = Done; buffers = appended bs (record { start = start; len = len }) })) →
+    (P : (Result ⊤ LocalRefusal × Buffers) → Type 0) (bs : Buffers) (p : Part) (start len : ℕ) →
+    ((n : LocalRefusal) → P (Err n, bs)) →
+    (bs.count < 8 → P (Ok tt, appended bs (record { start = start; len = len }))) →
     P (posted bs p start len)
 unfolding posted
 posted-by P bs p start len refused done = go (in_part p start len) (ltb bs.count 8) refl
@@ -453,26 +446,26 @@ posted-by P bs p start len refused done = go (in_part p start len) (ltb bs.count
         (a b : Bool) → ltb bs.count 8 ≡ b →
         P
         (pick a
-        (pick b (record { outcome = Done; buffers = appended bs (record { start = start; len = len }) }) (record { outcome = NotDone 10; buffers = bs }))
-        (record { outcome = NotDone 9; buffers = bs }))
-    go false b e = refused 9
-    go true false e = refused 10
+        (pick b (Ok tt, appended bs (record { start = start; len = len })) (Err BuffersFull, bs))
+        (Err BadPlace, bs))
+    go false b e = refused BadPlace
+    go true false e = refused BuffersFull
     go true true e = done (ltb-true bs.count 8 e)
 
 posted_on_by :
-    (P : StreamDone → Type 0) (s : Stream) (p : Part) (start len : ℕ) →
-    ((n : ℕ) → P (record { outcome = NotDone n; stream = s })) →
-    ((s' : Stream) → s'.sends.buffers ≡ appended s.sends.buffers (record { start = start; len = len }) → s.sends.buffers.count < 8 → P (record { outcome = Done; stream = s' })) →
+    (P : (Result ⊤ LocalRefusal × Stream) → Type 0) (s : Stream) (p : Part) (start len : ℕ) →
+    ((n : LocalRefusal) → P (Err n, s)) →
+    ((s' : Stream) → s'.sends.buffers ≡ appended s.sends.buffers (record { start = start; len = len }) → s.sends.buffers.count < 8 → P (Ok tt, s')) →
     P (posted_on s p start len)
 unfolding posted_on
 posted_on_by P s p start len refused done = go (readiness s.phase)
   where
-    entered : Posted → StreamDone
-    entered x = record { outcome = x.outcome; stream = with_sends s (record { msn = s.sends.msn; opcode = s.sends.opcode; taken = s.sends.taken; buffers = x.buffers }) }
+    entered : (Result ⊤ LocalRefusal × Buffers) → (Result ⊤ LocalRefusal × Stream)
+    entered x = (x.0, with_sends s (record { msn = s.sends.msn; opcode = s.sends.opcode; taken = s.sends.taken; buffers = x.1 }))
 
-    go : (r : Readiness) → P (posted_when s p start len r)
-    go Ready = posted-by (λ x. P (entered x)) s.sends.buffers p start len refused (λ h. done _ refl h)
-    go (NotReady k) = refused k
+    go : (r : Result ⊤ LocalRefusal) → P (posted_when s p start len r)
+    go (Ok tt) = posted-by (λ x. P (entered x)) s.sends.buffers p start len refused (λ h. done _ refl h)
+    go (Err k) = refused k
 
 -- one more buffer at the end of a stream's
 buffer_more :
@@ -530,22 +523,22 @@ module _ (d : Domain) (k : Sound d) (p : Apart d) where
   stream_apart slot h s l = fewer_apart d _ (stream_fewer d k slot h s l) p
 
   -- opening leaves fewer
-  pub opened_apart : (slot : ℕ) (crc : Bool) → Apart (domain_opened d slot crc).domain
+  pub opened_apart : (slot : ℕ) (crc : Bool) → Apart (domain_opened d slot crc).1
   unfolding domain_opened
-  opened_apart slot crc = picked (λ (r : DomainDone). Apart r.domain) (leb slot 3) _ _ (λ e. stream_apart slot (slot_lt slot e) _ (opened_less (stream_at d slot) crc)) (λ e. p)
+  opened_apart slot crc = picked (λ (r : Result ⊤ LocalRefusal × Domain). Apart r.1) (leb slot 3) _ _ (λ e. stream_apart slot (slot_lt slot e) _ (opened_less (stream_at d slot) crc)) (λ e. p)
 
   -- and closing
-  pub closed_apart : (slot : ℕ) → Apart (domain_closed d slot).domain
+  pub closed_apart : (slot : ℕ) → Apart (domain_closed d slot).1
   unfolding domain_closed
-  closed_apart slot = picked (λ (r : DomainClosed). Apart r.domain) (leb slot 3) _ _ (λ e. stream_apart slot (slot_lt slot e) _ (closed_less (stream_at d slot))) (λ e. p)
+  closed_apart slot = picked (λ (r : Result Left LocalRefusal × Domain). Apart r.1) (leb slot 3) _ _ (λ e. stream_apart slot (slot_lt slot e) _ (closed_less (stream_at d slot))) (λ e. p)
 
   -- and taking a read
-  pub taken_apart : (slot : ℕ) → Apart (domain_taken d slot).domain
+  pub taken_apart : (slot : ℕ) → Apart (domain_taken d slot).1
   unfolding domain_taken
-  taken_apart slot = picked (λ (r : DomainTaken). Apart r.domain) (leb slot 3) _ _ (λ e. stream_apart slot (slot_lt slot e) _ (taken_less (stream_at d slot))) (λ e. p)
+  taken_apart slot = picked (λ (r : Result ReadRequest LocalRefusal × Domain). Apart r.1) (leb slot 3) _ _ (λ e. stream_apart slot (slot_lt slot e) _ (taken_less (stream_at d slot))) (λ e. p)
 
   -- and dropping a window
-  pub dropped_apart : (slot : ℕ) → Apart (domain_dropped d slot).domain
+  pub dropped_apart : (slot : ℕ) → Apart (domain_dropped d slot).1
   unfolding domain_dropped
   dropped_apart slot = fewer_apart d _ (dropped_fewer d slot) p
 
@@ -554,62 +547,62 @@ module _ (d : Domain) (k : Sound d) (p : Apart d) where
   ticked_apart = fewer_apart d _ (meter_fewer d (ticked_meter d.meter)) p
 
   -- and receiving, at once or by offers: a buffer is used, a window invalidated
-  lifted_apart : (slot : ℕ) (x : SegmentRead) (r : PartsReceived) → slot < 4 → Less (stream_at d slot) r.stream → Apart (metered_of x (lifted d slot r)).domain
+  lifted_apart : (slot : ℕ) (x : Result SegmentRead Refusal) (r : PartsReceived) → slot < 4 → Less (stream_at d slot) r.stream → Apart (metered_of x (lifted d slot r)).1
   lifted_apart slot x r h l =
       let s : Domain = with_stream d slot r.stream in
-      let t : Domain = (lifted d slot r).domain in
+      let t : Domain = (lifted d slot r).1 in
       fewer_apart t _ (meter_fewer t (meter_by r.answer (segment_count x) d.meter)) (fewer_apart s _ (killed_fewer s r.invalidate) (stream_apart slot h r.stream l))
 
   few : (slot : ℕ) → slot < 4 → (buffers_of d slot).count ≤ length (buffers_of d slot).entries
   few slot h = omega (arith, (k.waiting slot h).few, (k.waiting slot h).long)
 
-  pub received_apart : (number slot : ℕ) (input : List ℕ) → Apart (domain_receives d number slot input).domain
+  pub received_apart : (number slot : ℕ) (input : List ℕ) → Apart (domain_receives d number slot input).1
   unfolding domain_receives domain_received
   received_apart number slot input =
       let r = parts_received d.windows number (stream_at d slot) input in
       let seg = segment_read (stream_at d slot).framing.crc input in
-      picked (λ (x : Received). Apart x.domain) (holds_at d slot) _ _ (λ e. p)
-      (λ q. picked (λ (x : Received). Apart x.domain) (leb slot 3) (metered_of seg (lifted d slot r)) _
+      picked (λ (x : Result Answer LocalRefusal × Domain). Apart x.1) (holds_at d slot) _ _ (λ e. p)
+      (λ q. picked (λ (x : Result Answer LocalRefusal × Domain). Apart x.1) (leb slot 3) (metered_of seg (lifted d slot r)) _
       (λ e. let h = slot_lt slot e in lifted_apart slot seg r h (received_less (stream_at d slot) (few slot h) d.windows number input)) (λ e. p))
 
-  pub offered_apart : (number slot : ℕ) (held input : List ℕ) → Apart (domain_offered d number slot held input).domain
+  pub offered_apart : (number slot : ℕ) (held input : List ℕ) → Apart (domain_offered d number slot held input).1
   unfolding domain_offered
   offered_apart number slot held input =
       let r = parts_offered d.windows number (stream_at d slot) held input in
       let seg = segment_read (stream_at d slot).framing.crc (held ++ input) in
-      picked (λ (x : Received). Apart x.domain) (leb slot 3) (metered_of seg (lifted d slot r)) _
+      picked (λ (x : Result Answer LocalRefusal × Domain). Apart x.1) (leb slot 3) (metered_of seg (lifted d slot r)) _
       (λ e. let h = slot_lt slot e in lifted_apart slot seg r h (offered_less (stream_at d slot) (few slot h) d.windows number held input)) (λ e. p)
 
   -- a window with the write right that shares a byte with a writer is refused, so what is registered shares none
-  pub registered_apart : (slot key base len place rights : ℕ) → Apart (domain_registered d slot key base len place rights).domain
+  pub registered_apart : (slot key base len place rights : ℕ) → Apart (domain_registered d slot key base len place rights).1
   unfolding domain_registered registered
   registered_apart slot key base len place rights = go (leb slot 15)
     where
       shared : Bool
       shared = both (writes rights) (domain_shares d place len)
 
-      kept : (n : ℕ) (ws : List Window) → Apart (with_windows d ws) → Apart (lastly shared d (record { outcome = NotDone n; domain = with_windows d ws })).domain
+      kept : (n : LocalRefusal) (ws : List Window) → Apart (with_windows d ws) → Apart (lastly shared d (Err n, with_windows d ws)).1
       kept n ws z = lastly-holds Apart shared d _ p (λ e f. z) (λ m e. z)
 
       go :
           (t : Bool) →
-          let r = pick t (entering d.windows slot (registered_in (window_at d.windows slot) d.part key base len place rights)) (refusing d.windows 1) in
-          Apart (lastly shared d (record { outcome = r.outcome; domain = with_windows d r.windows })).domain
-      go false = kept 1 d.windows (fewer_apart d _ (windows_fewer d d.windows (λ i e. refl)) p)
+          let r = pick t (entering d.windows slot (registered_in (window_at d.windows slot) d.part key base len place rights)) (refusing d.windows OutOfRange) in
+          Apart (lastly shared d (r.0, with_windows d r.1)).1
+      go false = kept OutOfRange d.windows (fewer_apart d _ (windows_fewer d d.windows (λ i e. refl)) p)
       go true =
-          registered-by (λ r. Apart (lastly shared d (record { outcome = r.outcome; domain = with_windows d (set d.windows slot r.window) })).domain)
+          registered-by (λ r. Apart (lastly shared d (r.0, with_windows d (set d.windows slot r.1))).1)
           (window_at d.windows slot) d.part key base len place rights
           (λ n. kept n _ (fewer_apart d _ (set_fewer d slot (window_at d.windows slot) (λ e. refl)) p))
           (lastly-holds Apart shared d _ p
           (λ e f. registered-window d slot key base len place rights f p) (λ n e. let no : ◌≡◌ {A = ℕ} 0 1 = cc in absurd (omega arith)))
 
   -- a buffer that shares a byte with a writer is refused, so what is posted shares none
-  pub posted_apart : (slot start len : ℕ) → Apart (domain_posted d slot start len).domain
+  pub posted_apart : (slot start len : ℕ) → Apart (domain_posted d slot start len).1
   unfolding domain_posted
   posted_apart slot start len =
-      picked (λ (r : DomainDone). Apart r.domain) (leb slot 3) _ _
+      picked (λ (r : Result ⊤ LocalRefusal × Domain). Apart r.1) (leb slot 3) _ _
       (λ e. let h = slot_lt slot e in
-      posted_on_by (λ r. Apart (lastly (domain_shares d start len) d (record { outcome = r.outcome; domain = with_stream d slot r.stream })).domain)
+      posted_on_by (λ r. Apart (lastly (domain_shares d start len) d (r.0, with_stream d slot r.1)).1)
       (stream_at d slot) d.part start len
       (λ n. let z = stream_apart slot h (stream_at d slot) (less_same (stream_at d slot)) in lastly-holds Apart (domain_shares d start len) d _ p (λ q f. z) (λ m q. z))
       (λ s q room. lastly-holds Apart (domain_shares d start len) d _ p

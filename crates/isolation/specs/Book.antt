@@ -4,25 +4,21 @@ use Rattle.std.specs.Prelude.{ℕ, ◌/◌, ◌%◌, ◌-◌, Bool, List, [], �
 use borrow.Rule.Slice.PartMut.{mid_of}
 use Rattle.wire.specs.Wire.{pick, both}
 use Rattle.memory.specs.Window.{live_count, lowest_free}
-use Rattle.memory.specs.declared.part.Outcome.{Outcome}
-use Rattle.memory.specs.declared.part.Outcome.TheVariants.{Done}
-use Rattle.rdmap.specs.declared.stream.CloseAnswer.{CloseAnswer}
-use Rattle.rdmap.specs.declared.stream.TakeAnswer.{TakeAnswer}
-use Rattle.rdmap.specs.declared.stream.StateAnswer.{StateAnswer}
 use Rattle.domain.specs.Domain.{new_domain, domain_opened, domain_closed, domain_posted, domain_taken, domain_registered, domain_dropped, domain_ticked, domain_reading, domain_state, stream_at}
 use Rattle.arrival.specs.declared.Answer.{Answer as ReceiveAnswer}
-use Rattle.arrival.specs.declared.Answer.TheVariants.{Refused}
 use Rattle.domain.specs.declared.Domain.{Domain}
 use Rattle.holding.specs.Offer.{domain_receives, domain_receives_bytes, offer_answer, domain_offered, domain_offered_bytes, domain_offered_held}
 use Rattle.holding.specs.declared.OfferAnswer.{OfferAnswer}
-use Rattle.holding.specs.declared.OfferAnswer.TheVariants.{Refused as NotOffered}
 use Rattle.rnic.specs.Offer.{rooms_bytes}
 use Rattle.rnic.specs.Rnic.{in_order}
 use Rattle.rnic.specs.declared.Rnic.{Rnic}
-use Rattle.rnic.specs.declared.Count.{Count}
-use Rattle.rnic.specs.declared.Count.TheVariants.{Counted}
-use Rattle.rnic.specs.declared.ReadingAnswer.{ReadingAnswer}
-use Rattle.rnic.specs.declared.ReadingAnswer.TheVariants.{Reads}
+use Rattle.std.specs.Prelude.{Err, Ok, Result, ⊤}
+use Rattle.meter.specs.declared.gauge.Reading.{Reading}
+use Rattle.rdmap.specs.declared.read.ReadRequest.{ReadRequest}
+use Rattle.rdmap.specs.declared.stream.Left.{Left}
+use Rattle.rdmap.specs.declared.stream.State.{State}
+use Rattle.wire.specs.declared.refusal.LocalRefusal.{LocalRefusal}
+use Rattle.wire.specs.declared.refusal.LocalRefusal.TheVariants.{OtherLength}
 
 -- a call, with its numbers; `receive` with the bytes and the length of the slice lent as the store, `offer` also with that of the slice lent
 -- as the second
@@ -42,14 +38,14 @@ pub data Call : Type 0 where
   ask_state : (n : ℕ) → Call
 
 pub data Answer : Type 0 where
-  done : Outcome → Answer
-  closed : CloseAnswer → Answer
-  received : ReceiveAnswer → Answer
-  offered : OfferAnswer → Answer
-  taken : TakeAnswer → Answer
-  counted : Count → Answer
-  gauge_read : ReadingAnswer → Answer
-  stated : StateAnswer → Answer
+  done : Result ⊤ LocalRefusal → Answer
+  closed : Result Left LocalRefusal → Answer
+  received : Result ReceiveAnswer LocalRefusal → Answer
+  offered : Result OfferAnswer LocalRefusal → Answer
+  taken : Result ReadRequest LocalRefusal → Answer
+  counted : Result ℕ LocalRefusal → Answer
+  gauge_read : Result Reading LocalRefusal → Answer
+  stated : Result State LocalRefusal → Answer
 
 -- ---- whom a call is for, made on a device b; 4 is nobody. So far no call's owner turns on the device
 
@@ -109,12 +105,12 @@ entered v a d = record { answer = a; after = record { size = v.size; dom = d; by
 -- a receive that is lent the store
 abbrev pub book_receive : ℕ → View → ℕ → List ℕ → Observation Answer
 book_receive A v n input = record {
-  answer = received (domain_receives v.dom A (n % 4) input).answer;
+  answer = received (domain_receives v.dom A (n % 4) input).0;
   after = record {
     size = v.size;
-    dom = (domain_receives v.dom A (n % 4) input).domain;
+    dom = (domain_receives v.dom A (n % 4) input).1;
     bytes = domain_receives_bytes v.dom A (n % 4) input v.bytes;
-    held = held_by (domain_receives v.dom A (n % 4) input).domain v.held;
+    held = held_by (domain_receives v.dom A (n % 4) input).1 v.held;
   };
 }
 
@@ -123,30 +119,30 @@ abbrev pub book_offer : ℕ → View → ℕ → List ℕ → Observation Answer
 book_offer A v n input =
     let h : List ℕ = v.held (n % 4) in
     record {
-      answer = offered (offer_answer (length h) (length input) (domain_offered v.dom A (n % 4) h input).answer);
+      answer = offered (offer_answer (length h) (length input) (domain_offered v.dom A (n % 4) h input).0);
       after = record {
         size = v.size;
-        dom = (domain_offered v.dom A (n % 4) h input).domain;
+        dom = (domain_offered v.dom A (n % 4) h input).1;
         bytes = domain_offered_bytes v.dom A (n % 4) h input v.bytes;
         held = λ slot. pick (eqb slot (n % 4)) (domain_offered_held v.dom A (n % 4) h input) (v.held slot);
       };
     }
 
 abbrev pub book : ℕ → View → Call → Observation Answer
-book A v (open_stream n crc) = entered v (done (domain_opened v.dom (n % 4) crc).outcome) (domain_opened v.dom (n % 4) crc).domain
-book A v (close_stream n) = entered v (closed (domain_closed v.dom (n % 4)).answer) (domain_closed v.dom (n % 4)).domain
+book A v (open_stream n crc) = entered v (done (domain_opened v.dom (n % 4) crc).0) (domain_opened v.dom (n % 4) crc).1
+book A v (close_stream n) = entered v (closed (domain_closed v.dom (n % 4)).0) (domain_closed v.dom (n % 4)).1
 book A v (register w key base len place rights) =
-    entered v (done (domain_registered v.dom (w % 16) key base len place rights).outcome) (domain_registered v.dom (w % 16) key base len place rights).domain
-book A v (drop_window w) = entered v (done (domain_dropped v.dom (w % 16)).outcome) (domain_dropped v.dom (w % 16)).domain
+    entered v (done (domain_registered v.dom (w % 16) key base len place rights).0) (domain_registered v.dom (w % 16) key base len place rights).1
+book A v (drop_window w) = entered v (done (domain_dropped v.dom (w % 16)).0) (domain_dropped v.dom (w % 16)).1
 book A v (post n start len) =
-    entered v (done (domain_posted v.dom (n % 4) start len).outcome) (domain_posted v.dom (n % 4) start len).domain
-book A v (receive n input k) = pick (eqb k v.size) (book_receive A v n input) (record { answer = received (Refused 2); after = v })
-book A v (offer n input k m) = pick (both (eqb k v.size) (eqb m rooms_bytes)) (book_offer A v n input) (record { answer = offered (NotOffered 2); after = v })
-book A v (take_read n) = entered v (taken (domain_taken v.dom (n % 4)).answer) (domain_taken v.dom (n % 4)).domain
-book A v (live d) = record { answer = counted (Counted (live_count v.dom.windows)); after = v }
-book A v (free d) = record { answer = counted (Counted (lowest_free v.dom.windows)); after = v }
-book A v (tick d) = entered v (done Done) (domain_ticked v.dom)
-book A v (read_gauge d) = record { answer = gauge_read (Reads (domain_reading v.dom)); after = v }
+    entered v (done (domain_posted v.dom (n % 4) start len).0) (domain_posted v.dom (n % 4) start len).1
+book A v (receive n input k) = pick (eqb k v.size) (book_receive A v n input) (record { answer = received (Err OtherLength); after = v })
+book A v (offer n input k m) = pick (both (eqb k v.size) (eqb m rooms_bytes)) (book_offer A v n input) (record { answer = offered (Err OtherLength); after = v })
+book A v (take_read n) = entered v (taken (domain_taken v.dom (n % 4)).0) (domain_taken v.dom (n % 4)).1
+book A v (live d) = record { answer = counted (Ok (live_count v.dom.windows)); after = v }
+book A v (free d) = record { answer = counted (Ok (lowest_free v.dom.windows)); after = v }
+book A v (tick d) = entered v (done (Ok tt)) (domain_ticked v.dom)
+book A v (read_gauge d) = record { answer = gauge_read (Ok (domain_reading v.dom)); after = v }
 book A v (ask_state n) = record { answer = stated (domain_state v.dom (n % 4)); after = v }
 
 -- A's observations of a list of its calls, one after the other; f is the form in which answers are given

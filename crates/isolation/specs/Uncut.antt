@@ -3,17 +3,18 @@
 use Rattle.std.specs.Prelude.{ℕ, zero, suc, ◌%◌, ◌≡◌, Bool, true, false, List, [], ◌∷◌, ◌++◌, length, get_or, take, drop, eqb}
 use Rattle.wire.specs.Wire.{pick}
 use Rattle.domain.specs.Domain.{stream_at}
-use Rattle.arrival.specs.declared.Event.TheVariants.{NoEvent, Sent, SentInvalidating, Terminated}
-use Rattle.arrival.specs.declared.Answer.TheVariants.{Wait, Taken, Ended, Refused}
+use Rattle.arrival.specs.declared.Event.TheVariants.{Sent, SentInvalidating, Terminated}
+use Rattle.arrival.specs.declared.Answer.TheVariants.{Wait, Taken, Ended}
 use Rattle.cuts.specs.Cuts.{events_of, left_of}
 use Rattle.cuts.specs.Received.{Report, MayHold}
 use Rattle.cuts.specs.Received.Report.{event, refusal}
 use Rattle.holding.specs.Machine.{side_of, answer_of}
-use Rattle.holding.specs.declared.OfferAnswer.TheVariants.{Refused as NotOffered}
 use Rattle.rnic.specs.Offer.{rooms_bytes}
 use Rattle.isolation.specs.Book.{Call, Answer, View, Observation, book, book_trace, book_view}
 use Rattle.isolation.specs.Book.Call.{offer}
 use Rattle.isolation.specs.Book.Answer.{done, closed, received, offered, taken, counted, gauge_read, stated}
+use Rattle.std.specs.Prelude.{Err, None, Ok, Some}
+use Rattle.wire.specs.declared.refusal.LocalRefusal.TheVariants.{StreamEnded}
 
 -- ---- the events
 
@@ -21,10 +22,10 @@ use Rattle.isolation.specs.Book.Answer.{done, closed, received, offered, taken, 
 abbrev pub reports_of : Answer → List Report
 reports_of (done o) = []
 reports_of (closed a) = []
-reports_of (received (Wait n)) = []
-reports_of (received (Taken total e)) = event e ∷ []
-reports_of (received (Ended r)) = refusal r ∷ []
-reports_of (received (Refused k)) = []
+reports_of (received (Ok (Wait n))) = []
+reports_of (received (Ok (Taken total e))) = event e ∷ []
+reports_of (received (Ok (Ended r))) = refusal r ∷ []
+reports_of (received (Err k)) = []
 reports_of (offered a) = events_of (answer_of a)
 reports_of (taken a) = []
 reports_of (counted n) = []
@@ -35,10 +36,10 @@ reports_of (stated a) = []
 unfoldable pub reports_in_words : List ℕ → List Report
 reports_in_words ws =
     let word : ℕ → ℕ = λ i. get_or ws i 0 in
-    pick (eqb (word 0) 6) (event NoEvent ∷ [])
-    (pick (eqb (word 0) 7) (event (Sent (word 2) (word 3) (word 4)) ∷ [])
-    (pick (eqb (word 0) 8) (event (SentInvalidating (word 2) (word 3) (word 4) (word 5)) ∷ [])
-    (pick (eqb (word 0) 9) (event (Terminated (word 2) (word 3) (word 4)) ∷ [])
+    pick (eqb (word 0) 6) (event None ∷ [])
+    (pick (eqb (word 0) 7) (event (Some (Sent (word 2) (word 3) (word 4))) ∷ [])
+    (pick (eqb (word 0) 8) (event (Some (SentInvalidating (word 2) (word 3) (word 4) (word 5))) ∷ [])
+    (pick (eqb (word 0) 9) (event (Some (Terminated (word 2) (word 3) (word 4))) ∷ [])
     (pick (eqb (word 0) 10) (refusal (record { number = word 1; layer = word 2; etype = word 3; code = word 4 }) ∷ [])
     []))))
 
@@ -53,10 +54,10 @@ book_events A v calls = events_in reports_of (book_trace (λ (a : Answer). a) A 
 
 -- "peer refusal or Terminate": the stream ends
 abbrev pub is_end : Report → Bool
-is_end (event NoEvent) = false
-is_end (event (Sent start len opcode)) = false
-is_end (event (SentInvalidating start len opcode stag)) = false
-is_end (event (Terminated layer etype code)) = true
+is_end (event None) = false
+is_end (event (Some (Sent start len opcode))) = false
+is_end (event (Some (SentInvalidating start len opcode stag))) = false
+is_end (event (Some (Terminated layer etype code))) = true
 is_end (refusal r) = true
 
 -- one of these events is such an end
@@ -137,4 +138,4 @@ pub record SameFor (A : ℕ) (v : View) (cs ds : List Call) : Type 0 where
 -- the stream has ended: nothing is held, and "bytes after that are refused with 5 and not kept", with nothing of A's changed
 pub record Over (A : ℕ) (v : View) (n : ℕ) : Type 0 where
   pub empty : v.held (n % 4) ≡ []
-  pub later : (piece : List ℕ) → book A v (piece_of v n piece) ≡ record { answer = offered (NotOffered 5); after = v }
+  pub later : (piece : List ℕ) → book A v (piece_of v n piece) ≡ record { answer = offered (Err StreamEnded); after = v }

@@ -6,7 +6,7 @@ use Rattle.memory.specs.declared.buffer.Buffer.{Buffer}
 use Rattle.memory.specs.declared.buffer.Buffers.{Buffers}
 use Rattle.ddp.specs.Segment.{segment_read}
 use Rattle.ddp.specs.declared.segment.SegmentRead.{SegmentRead}
-use Rattle.ddp.specs.declared.segment.SegmentRead.TheVariants.{Wait, Refused, Tagged, Untagged}
+use Rattle.ddp.specs.declared.segment.SegmentRead.TheVariants.{Wait, Tagged, Untagged}
 use Rattle.domain.specs.Domain.{stream_at}
 use Rattle.overlap.specs.Sharing.{shares, writable}
 use Rattle.domain.specs.declared.Domain.{Domain}
@@ -15,6 +15,8 @@ use Rattle.rnic.specs.Offer.{held_bytes}
 use Rattle.rnic.specs.declared.Rnic.{Rnic}
 use Rattle.isolation.specs.Book.{Call, of_stream}
 use Rattle.isolation.specs.Book.Call.{open_stream, close_stream, register, drop_window, post, receive, offer, take_read, live, free, tick, read_gauge, ask_state}
+use Rattle.std.specs.Prelude.{Err, Ok, Result}
+use Rattle.ddp.specs.declared.refusal.Refusal.{Refusal}
 
 -- the window of a slot, or the buffer that waits as the k-th on the stream of a slot
 pub data Writer : Type 0 where
@@ -54,11 +56,11 @@ abbrev pub Apart : Domain → Type 0
 Apart d = (a b : Writer) → a ≢ b → Writes d a → Writes d b → shares (start_of d a) (len_of d a) (start_of d b) (len_of d b) ≡ false
 
 -- the writer that a segment on the stream of a slot is for: the window in the slot that its STag names, or the buffer in fill
-abbrev pub target : ℕ → SegmentRead → Writer
-target slot (Wait n) = buffer slot 0
-target slot (Refused r) = buffer slot 0
-target slot (Tagged total h start len) = window (slot_named h.stag)
-target slot (Untagged total h start len) = buffer slot 0
+abbrev pub target : ℕ → Result SegmentRead Refusal → Writer
+target slot (Ok (Wait n)) = buffer slot 0
+target slot (Err r) = buffer slot 0
+target slot (Ok (Tagged total h start len)) = window (slot_named h.stag)
+target slot (Ok (Untagged total h start len)) = buffer slot 0
 
 -- and the first segment of an input
 abbrev pub receiver : Domain → ℕ → List ℕ → Writer

@@ -15,16 +15,16 @@ use Rattle.memory.specs.Part.{in_part}
 use Rattle.memory.specs.Window.{no_window, window_at, in_range, window_fits, keeping, refusing, entering, registered_in, registered, dead_of, dropped_in, dropped, named, slot_named, found_in, wraps, within, spanned}
 use Rattle.memory.specs.Buffer.{no_buffer, appended, posted, first_of, popped_of}
 use Rattle.memory.specs.declared.part.Part.{Part}
-use Rattle.memory.specs.declared.part.Outcome.TheVariants.{Done, Refused}
 use Rattle.memory.specs.declared.buffer.Buffer.{Buffer}
 use Rattle.memory.specs.declared.buffer.Buffers.{Buffers}
-use Rattle.memory.specs.declared.buffer.Posted.{Posted}
-use Rattle.memory.specs.declared.buffer.FirstBuffer.TheVariants.{Waiting, NoneWaiting}
 use Rattle.memory.specs.declared.window.Window.{Window}
-use Rattle.memory.specs.declared.window.WindowDone.{WindowDone}
-use Rattle.memory.specs.declared.window.Found.TheVariants.{Slot, Foreign, Missing}
-use Rattle.memory.specs.declared.window.Span.TheVariants.{Inside, Wrap, Outside}
 use Rattle.memory.proofs.Laws.{both_left, both_right, part_bound}
+use Rattle.std.specs.Prelude.{Err, None, Ok, Some}
+use Rattle.memory.specs.declared.window.SpanFault.TheVariants.{Outside, Wrap}
+use Rattle.memory.specs.declared.window.StagFault.TheVariants.{Foreign, Missing}
+use Rattle.wire.specs.declared.refusal.LocalRefusal.TheVariants.{BadPlace, BuffersFull, KeyAgain, OutOfRange, WindowLive, WindowNotLive}
+use Rattle.std.specs.Prelude.{Result, ⊤}
+use Rattle.wire.specs.declared.refusal.LocalRefusal.{LocalRefusal}
 
 -- the len bytes from a place lie in a part
 abbrev pub Lies : Part → ℕ → ℕ → Type 0
@@ -62,52 +62,52 @@ abbrev live_of : ℕ → ℕ → ℕ → ℕ → ℕ → Window
 live_of key base len place rights = record { live = true; key = key; rights = rights; place = place; len = len; base = base }
 
 -- one window registered or dropped; a refusal leaves it as it was
-pub registered-one : (p : Part) (w : Window) (key base len place rights : ℕ) → WindowIn p w → WindowIn p (registered_in w p key base len place rights).window
+pub registered-one : (p : Part) (w : Window) (key base len place rights : ℕ) → WindowIn p w → WindowIn p (registered_in w p key base len place rights).1
 unfolding registered_in
 registered-one p w key base len place rights one =
     go (in_range key rights) w.live (eqb key w.key) (window_fits p place base len) refl
   where
     go :
         (a b c d : Bool) → window_fits p place base len ≡ d →
-        WindowIn p (pick a (pick b (keeping w 6) (pick c (keeping w 8) (pick d (record { outcome = Done; window = live_of key base len place rights }) (keeping w 9)))) (keeping w 1)).window
+        WindowIn p (pick a (pick b (keeping w WindowLive) (pick c (keeping w KeyAgain) (pick d (Ok tt, live_of key base len place rights) (keeping w BadPlace)))) (keeping w OutOfRange)).1
     go false b c d e = one
     go true true c d e = one
     go true false true d e = one
     go true false false false e = one
     go true false false true e = λ l. fits-lies p place base len e
 
-pub dropped-one : (p : Part) (w : Window) → WindowIn p w → WindowIn p (dropped_in w).window
+pub dropped-one : (p : Part) (w : Window) → WindowIn p w → WindowIn p (dropped_in w).1
 unfolding dropped_in
 dropped-one p w one = go w.live
   where
-    go : (a : Bool) → WindowIn p (pick {A = WindowDone} a (record { outcome = Done; window = dead_of w }) (keeping w 7)).window
+    go : (a : Bool) → WindowIn p (pick {A = (Result ⊤ LocalRefusal × Window)} a (Ok tt, dead_of w) (keeping w WindowNotLive)).1
     go false = one
     go true = λ l. let no : ◌≡◌ {A = ℕ} 0 1 = cc in absurd (omega arith)
 
 -- and put in its slot
-entered_in : (p : Part) (ws : List Window) (slot : ℕ) (r : WindowDone) (t : Bool) → WindowsIn p ws → WindowIn p r.window → WindowsIn p (pick t (entering ws slot r) (refusing ws 1)).windows
-entered_in p ws slot r true all one = set_in p ws slot r.window all one
+entered_in : (p : Part) (ws : List Window) (slot : ℕ) (r : Result ⊤ LocalRefusal × Window) (t : Bool) → WindowsIn p ws → WindowIn p r.1 → WindowsIn p (pick t (entering ws slot r) (refusing ws OutOfRange)).1
+entered_in p ws slot r true all one = set_in p ws slot r.1 all one
 entered_in p ws slot r false all one = all
 
-pub registered_in_lem : (p : Part) (ws : List Window) (slot key base len place rights : ℕ) → WindowsIn p ws → WindowsIn p (registered ws p slot key base len place rights).windows
+pub registered_in_lem : (p : Part) (ws : List Window) (slot key base len place rights : ℕ) → WindowsIn p ws → WindowsIn p (registered ws p slot key base len place rights).1
 unfolding registered
 registered_in_lem p ws slot key base len place rights all =
     entered_in p ws slot (registered_in (window_at ws slot) p key base len place rights) (leb slot 15) all
     (registered-one p (window_at ws slot) key base len place rights (all slot))
 
-pub dropped_in_lem : (p : Part) (ws : List Window) (slot : ℕ) → WindowsIn p ws → WindowsIn p (dropped ws slot).windows
+pub dropped_in_lem : (p : Part) (ws : List Window) (slot : ℕ) → WindowsIn p ws → WindowsIn p (dropped ws slot).1
 unfolding dropped
 dropped_in_lem p ws slot all =
     entered_in p ws slot (dropped_in (window_at ws slot)) (leb slot 15) all (dropped-one p (window_at ws slot) (all slot))
 
 -- what is inside a window
-pub span_in_lem : (w : Window) (to len at : ℕ) → spanned w to len ≡ Inside at → (w.place ≤ at) × (at + len ≤ w.place + w.len)
+pub span_in_lem : (w : Window) (to len at : ℕ) → spanned w to len ≡ Ok at → (w.place ≤ at) × (at + len ≤ w.place + w.len)
 unfolding spanned
 span_in_lem w to len at e = go (wraps to len) (within w to len) refl e
   where
     go :
         (a b : Bool) → within w to len ≡ b →
-        pick a Wrap (pick b (Inside (w.place + (to - w.base))) Outside) ≡ Inside at → (w.place ≤ at) × (at + len ≤ w.place + w.len)
+        pick a (Err Wrap) (pick b (Ok (w.place + (to - w.base))) (Err Outside)) ≡ Ok at → (w.place ≤ at) × (at + len ≤ w.place + w.len)
     go true b q e = let no : ◌≡◌ {A = ℕ} 0 1 = cc in omega arith
     go false false q e = let no : ◌≡◌ {A = ℕ} 0 1 = cc in omega arith
     go false true q e =
@@ -121,13 +121,13 @@ named_live : (w : Window) (key : ℕ) → named w key ≡ true → w.live ≡ tr
 unfolding named
 named_live w key e = both_left w.live (eqb key w.key) e
 
-pub found-live : (w : Window) (domain stag slot : ℕ) → found_in w domain stag ≡ Slot slot → w.live ≡ true
+pub found-live : (w : Window) (domain stag slot : ℕ) → found_in w domain stag ≡ Ok slot → w.live ≡ true
 unfolding found_in
 found-live w domain stag slot e = go (leb (stag / 256) 63) (eqb (stag / 256 / 16) domain) (named w (stag % 256)) refl e
   where
     go :
         (a b c : Bool) → named w (stag % 256) ≡ c →
-        pick a (pick b (pick c (Slot (slot_named stag)) Missing) Foreign) Missing ≡ Slot slot → w.live ≡ true
+        pick a (pick b (pick c (Ok (slot_named stag)) (Err Missing)) (Err Foreign)) (Err Missing) ≡ Ok slot → w.live ≡ true
     go false b c q e = cc
     go true false c q e = cc
     go true true false q e = cc
@@ -140,7 +140,7 @@ BufferIn p b = Lies p b.start b.len
 abbrev pub BuffersIn : Part → Buffers → Type 0
 BuffersIn p bs = (i : ℕ) → i < bs.count → BufferIn p (get_or bs.entries i no_buffer)
 
-pub posted_in : (p : Part) (bs : Buffers) (start len : ℕ) → length bs.entries ≡ 8 → BuffersIn p bs → BuffersIn p (posted bs p start len).buffers
+pub posted_in : (p : Part) (bs : Buffers) (start len : ℕ) → length bs.entries ≡ 8 → BuffersIn p bs → BuffersIn p (posted bs p start len).1
 unfolding posted
 posted_in p bs start len long all = go (in_part p start len) refl (ltb bs.count 8) refl
   where
@@ -157,19 +157,19 @@ posted_in p bs start len long all = go (in_part p start len) refl (ltb bs.count 
     go :
         (a : Bool) → in_part p start len ≡ a → (b : Bool) → ltb bs.count 8 ≡ b →
         BuffersIn p
-        (pick {A = Posted} a
-        (pick b (record { outcome = Done; buffers = appended bs (record { start = start; len = len }) }) (record { outcome = Refused 10; buffers = bs }))
-        (record { outcome = Refused 9; buffers = bs })
-        ).buffers
+        (pick {A = (Result ⊤ LocalRefusal × Buffers)} a
+        (pick b (Ok tt, appended bs (record { start = start; len = len })) (Err BuffersFull, bs))
+        (Err BadPlace, bs)
+        ).1
     go false e b f = all
     go true e false f = all
     go true e true f = added e (ltb-true bs.count 8 f)
 
-pub first_in : (p : Part) (bs : Buffers) (b : Buffer) → BuffersIn p bs → first_of bs ≡ Waiting b → BufferIn p b
+pub first_in : (p : Part) (bs : Buffers) (b : Buffer) → BuffersIn p bs → first_of bs ≡ Some b → BufferIn p b
 unfolding first_of
 first_in p bs b all e = go (eqb bs.count 0) refl e
   where
-    go : (t : Bool) → eqb bs.count 0 ≡ t → pick t NoneWaiting (Waiting (get_or bs.entries 0 no_buffer)) ≡ Waiting b → BufferIn p b
+    go : (t : Bool) → eqb bs.count 0 ≡ t → pick t None (Some (get_or bs.entries 0 no_buffer)) ≡ Some b → BufferIn p b
     go true q e = let no : ◌≡◌ {A = ℕ} 0 1 = cc in omega arith
     go false q e =
         let same : get_or bs.entries 0 no_buffer ≡ b = cc in

@@ -2,13 +2,16 @@
 use Prim.Native.Nat.{ℕ, zero, suc, ◌+◌, ◌-◌, ◌*◌, ◌/◌, ◌%◌, ◌^◌, ◌<◌, suc-le-suc}
 use mathlib.Core.Path.{◌≡◌, refl, sym, ap, ap₂, ◌∙◌}
 use mathlib.Core.Bool.{Bool, true, false}
-use mathlib.Core.List.{List, [], ◌∷◌}
+use mathlib.Core.List.{List, [], ◌∷◌, reverse, reverse-cons}
 use native.Mathlib.Omega.{arith}
 use native.Mathlib.Numerals.{add-one}
 use native.Mathlib.Nat.{pow-suc, mod-eq_of_lt, lt_of_lt_of_le, zero-lt-suc}
 use lib.Pow.{pow_mono}
 use lib.ListN.{length, drop, drop_of_length-le, length-drop}
 use lib.Seq.{drop-cons}
+use Rattle.std.specs.List.{fold}
+use Rattle.std.proofs.Common.{◌≤◌}
+use Rattle.std.proofs.lemmas.List.Sums.{fold-append}
 use lib.Count.{ones, ones_step, count_trailing_zeros, under}
 use Rattle.wire.specs.Wire.{pick}
 use Rattle.memory.specs.Window.{no_window, window_at, live_count, lowest_free}
@@ -94,6 +97,18 @@ module _ (ws : List Window) (long : length ws ≡ 16) where
       ap (λ (k : ℕ). k % 32768 * 2 + pick (window_at ws i).live 1 0) e
       ∙ ap (λ (k : ℕ). k * 2 + pick (window_at ws i).live 1 0) (mod-eq_of_lt (room i))
       ∙ sym (one_more i h)
+
+-- the marks gathered from the last window on
+pub marks_fold : (ws : List Window) → length ws ≤ 16 → fold (λ m w. pushed m w.live) 0 (reverse ws) ≡ live_marks ws
+unfolding live_marks pushed
+marks_fold [] h = refl
+marks_fold (w ∷ ws) h =
+    let e : fold (λ m v. pushed m v.live) 0 (reverse ws) ≡ live_marks ws = marks_fold ws (omega arith) in
+    let room : live_marks ws < 32768 = lt_of_lt_of_le (marks_below ws) (pow_mono {j = 15} (omega arith)) in
+    ap (fold (λ m v. pushed m v.live) 0) (reverse-cons w ws)
+    ∙ fold-append (λ m v. pushed m v.live) 0 (reverse ws) (w ∷ [])
+    ∙ ap (λ (k : ℕ). k % 32768 * 2 + pick w.live 1 0) e
+    ∙ ap (λ (k : ℕ). k * 2 + pick w.live 1 0) (mod-eq_of_lt room)
 
 -- windows that are all live
 all_live : (ws : List Window) → ((i : ℕ) → i < length ws → (window_at ws i).live ≡ true) → (live_count ws ≡ length ws) × (lowest_free ws ≡ length ws)

@@ -1,9 +1,9 @@
 // Untagged buffers: up to eight wait on a stream, the first posted is the first used.
-ghost use Rattle.std.specs.Prelude.{◌≡◌};
+ghost use Rattle.std.specs.Prelude.{◌≡◌, [], ◌∷◌, ◌++◌, drop};
 ghost use Rattle.memory.specs.Buffer.{posted, first_of, popped_of};
 
-use crate::part::{Outcome, Part};
-use crate::refusal::{BAD_PLACE, BUFFERS_FULL};
+use crate::part::{Part, inside};
+use wire::refusal::LocalRefusal;
 
 // One buffer: where it starts in the store, and how many bytes it holds.
 #[repr(C)]
@@ -14,6 +14,8 @@ pub struct Buffer {
 }
 
 // The buffers that wait, the oldest first; zeros past the count.
+// Kept: a count beside entries, and no `ArrayVec`. The memory is fixed (repr(C)), and `posted` and `popped_of` say what
+// every entry is, those past the count too.
 #[repr(C)]
 #[derive(Clone, Copy)]
 pub struct Buffers {
@@ -21,84 +23,56 @@ pub struct Buffers {
     pub entries: [Buffer; 8],
 }
 
-// What posting answers, and the buffers after it.
-#[derive(Drop)]
-pub struct Posted {
-    pub outcome: Outcome,
-    pub buffers: Buffers,
-}
-
-// The buffer that the next message goes to, if one waits.
-#[derive(Drop)]
-pub enum FirstBuffer {
-    Waiting(Buffer),
-    NoneWaiting,
+// Eight entries without the first: the others move up, and an empty one comes last.
+#[tactic(auto, using(crate::proofs::Laws::shifted))]
+pub fn moved_up<T: Copy>(e: [T; 8], empty: T) -> [T; 8]
+    ensures { result ≡ drop 1 e ++ (empty ∷ []) }
+{
+    [e[1], e[2], e[3], e[4], e[5], e[6], e[7], empty]
 }
 
 impl Buffers {
-    // Adds a buffer at the end.
-    pub fn post(self, part: Part, start: u64, len: u64) -> Posted
+    // Adds a buffer at the end: what posting answers, and the buffers after it.
+    #[tactic(auto, using(crate::proofs::Laws::part_bound), unfolding(crate::specs::Buffer::posted))]
+    pub fn post(mut self, part: Part, start: u64, len: u64) -> (Result<(), LocalRefusal>, Buffers)
         ensures { result ≡ posted self part start len }
     {
-        let count = self.count;
-        if crate::part::inside(part, start, len) {
-            if count < 8 {
-                let mut next = self;
-                next.entries[count as usize] = Buffer {
-                    start: start as u32,
-                    len: len as u32,
-                };
-                next.count = count + 1;
-                return Posted {
-                    outcome: Outcome::Done,
-                    buffers: next,
-                };
-            }
-            return Posted {
-                outcome: Outcome::Refused(BUFFERS_FULL),
-                buffers: self,
-            };
+        if !inside(part, start, len) {
+            return (Err(LocalRefusal::BadPlace), self);
         }
-        Posted {
-            outcome: Outcome::Refused(BAD_PLACE),
-            buffers: self,
+        if 8 <= self.count {
+            return (Err(LocalRefusal::BuffersFull), self);
         }
+        self.entries[self.count as usize] = Buffer {
+            start: start as u32,
+            len: len as u32,
+        };
+        self.count += 1;
+        (Ok(()), self)
     }
 
-    // The oldest buffer.
-    pub fn first(self) -> FirstBuffer
+    // The buffer that the next message goes to, the oldest, if one waits.
+    #[tactic(auto, unfolding(crate::specs::Buffer::first_of))]
+    pub fn first(self) -> Option<Buffer>
         ensures { result ≡ first_of self }
     {
         if self.count == 0 {
-            return FirstBuffer::NoneWaiting;
+            return None;
         }
-        let entries = self.entries;
-        let oldest = entries[0];
-        FirstBuffer::Waiting(oldest)
+        Some(self.entries[0])
     }
 
     // The buffers without the oldest: the others move up.
+    #[tactic(auto, unfolding(crate::specs::Buffer::popped_of))]
     pub fn popped(self) -> Buffers
         ensures { result ≡ popped_of self }
     {
-        let count = self.count;
-        if count == 0 {
+        if self.count == 0 {
             return self;
         }
-        let e = self.entries;
-        let entries = [
-            e[1],
-            e[2],
-            e[3],
-            e[4],
-            e[5],
-            e[6],
-            e[7],
-            Buffer { start: 0, len: 0 },
-        ];
         Buffers {
-            count: count - 1,
-            entries,
+            count: self.count - 1,
+            entries: moved_up(self.entries, Buffer { start: 0, len: 0 }),
         }
     }
 }

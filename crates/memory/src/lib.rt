@@ -9,5 +9,4 @@
 pub mod buffer;
 pub mod marks;
 pub mod part;
-pub mod refusal;
 pub mod window;

@@ -1,11 +1,12 @@
-// Windows: the tagged buffers of a domain, sixteen by value, one entry changed at a time.
+// Windows: the tagged buffers of a domain, sixteen by value, one entry changed at a time. A call answers a pair: what it
+// says, and the window or the windows after it.
 ghost use Rattle.std.specs.Prelude.{◌≡◌, ◌<◌};
 ghost use Rattle.memory.specs.Window.{in_range, window_fits, keeping, refusing, entering, registered_in, registered, dropped_in, dropped, live_count, lowest_free, named, slot_named, found_in, wraps, spanned};
 ghost use Rattle.memory.specs.Marks.{live_marks};
 
 use crate::marks::{count, lowest_clear, push};
-use crate::part::{Outcome, Part, inside};
-use crate::refusal::{BAD_PLACE, KEY_AGAIN, OUT_OF_RANGE, WINDOW_LIVE, WINDOW_NOT_LIVE};
+use crate::part::{Part, inside};
+use wire::refusal::LocalRefusal;
 
 // One window. A dead one keeps its last key (0: it never had one), and zeros beside.
 #[repr(C)]
@@ -19,98 +20,66 @@ pub struct Window {
     pub base: u64,
 }
 
-// What a call answers, and the window after it.
-#[derive(Drop)]
-pub struct WindowDone {
-    pub outcome: Outcome,
-    pub window: Window,
-}
-
-// What a call answers, and the domain's windows after it.
-#[derive(Drop)]
-pub struct Registered {
-    pub outcome: Outcome,
-    pub windows: [Window; 16],
-}
-
-// What an STag names for a domain.
-#[derive(Drop)]
-pub enum Found {
-    Slot(usize),
+// Why an STag names no window of a domain: it is another domain's, or no live window has it.
+#[derive(Clone, Copy, Debug, PartialEq, Eq)]
+pub enum StagFault {
     Foreign,
     Missing,
 }
 
-// Where some bytes from a tagged offset lie: at a place of the store, past the end of all offsets, or not in the window.
-#[derive(Drop)]
-pub enum Span {
-    Inside(u64),
+// Why some bytes from a tagged offset have no place: they go past the end of all offsets, or are not in the window.
+#[derive(Clone, Copy, Debug, PartialEq, Eq)]
+pub enum SpanFault {
     Wrap,
     Outside,
 }
 
 // Whether key and rights are in their ranges.
+#[tactic(auto, unfolding(crate::specs::Window::in_range))]
 fn in_range(key: u64, rights: u64) -> bool
     ensures { result ≡ in_range key rights }
 {
-    if key == 0 {
-        return false;
-    }
-    if 255 < key {
-        return false;
-    }
-    if rights == 0 {
-        return false;
-    }
-    rights <= 3
+    (1 <= key && key <= 255) && (1 <= rights && rights <= 3)
 }
 
 // Whether a window lies in the part, and ends at an offset that there is.
+#[tactic(auto, unfolding(crate::specs::Window::window_fits))]
 fn window_fits(part: Part, place: u64, base: u64, len: u64) -> bool
     ensures { result ≡ window_fits part place base len }
 {
-    if inside(part, place, len) {
-        return len <= u64::MAX - base;
-    }
-    false
+    inside(part, place, len) && len <= u64::MAX - base
 }
 
 // A refusal: the window is as it was.
-fn kept(w: Window, number: u8) -> WindowDone
-    ensures { result ≡ keeping w number }
+fn kept(w: Window, refusal: LocalRefusal) -> (Result<(), LocalRefusal>, Window)
+    ensures { result ≡ keeping w refusal }
 {
-    WindowDone {
-        outcome: Outcome::Refused(number),
-        window: w,
-    }
+    (Err(refusal), w)
 }
 
 // A refusal: the windows are as they were.
-fn refused(windows: [Window; 16], number: u8) -> Registered
-    ensures { result ≡ refusing windows number }
+fn refused(windows: [Window; 16], refusal: LocalRefusal) -> (Result<(), LocalRefusal>, [Window; 16])
+    ensures { result ≡ refusing windows refusal }
 {
-    Registered {
-        outcome: Outcome::Refused(number),
-        windows,
-    }
+    (Err(refusal), windows)
 }
 
 // The windows with what was done in one of them put in its slot.
-fn entered(windows: [Window; 16], slot: usize, done: WindowDone) -> Registered
+fn entered(
+    mut windows: [Window; 16],
+    slot: usize,
+    done: (Result<(), LocalRefusal>, Window),
+) -> (Result<(), LocalRefusal>, [Window; 16])
     requires { slot < 16 }
     ensures { result ≡ entering windows slot done }
 {
-    let outcome = done.outcome;
-    let w = done.window;
-    let mut next = windows;
-    next[slot] = w;
-    Registered {
-        outcome,
-        windows: next,
-    }
+    let (outcome, window) = done;
+    windows[slot] = window;
+    (outcome, windows)
 }
 
 // Registers the window w.
+#[tactic(auto, using(crate::proofs::Laws::key_bound, crate::proofs::Laws::rights_bound, crate::proofs::Laws::window_bound), unfolding(crate::specs::Window::registered_in))]
 pub fn register_in(
     w: Window,
     part: Part,
@@ -119,36 +88,36 @@ pub fn register_in(
     len: u64,
     place: u64,
     rights: u64,
-) -> WindowDone
+) -> (Result<(), LocalRefusal>, Window)
     ensures { result ≡ registered_in w part key base len place rights }
 {
-    if in_range(key, rights) {
-        if w.live {
-            return kept(w, WINDOW_LIVE);
-        }
-        if key == w.key as u64 {
-            return kept(w, KEY_AGAIN);
-        }
-        if window_fits(part, place, base, len) {
-            let new = Window {
-                live: true,
-                key: key as u8,
-                rights: rights as u8,
-                place: place as u32,
-                len: len as u32,
-                base,
-            };
-            return WindowDone {
-                outcome: Outcome::Done,
-                window: new,
-            };
-        }
-        return kept(w, BAD_PLACE);
+    if !in_range(key, rights) {
+        return kept(w, LocalRefusal::OutOfRange);
     }
-    kept(w, OUT_OF_RANGE)
+    if w.live {
+        return kept(w, LocalRefusal::WindowLive);
+    }
+    if key == u64::from(w.key) {
+        return kept(w, LocalRefusal::KeyAgain);
+    }
+    if !window_fits(part, place, base, len) {
+        return kept(w, LocalRefusal::BadPlace);
+    }
+    (
+        Ok(()),
+        Window {
+            live: true,
+            key: key as u8,
+            rights: rights as u8,
+            place: place as u32,
+            len: len as u32,
+            base,
+        },
+    )
 }
 
 // Registers the window of a slot.
+#[tactic(auto, unfolding(crate::specs::Window::registered))]
 pub fn register(
     windows: [Window; 16],
     part: Part,
@@ -158,11 +127,11 @@ pub fn register(
     len: u64,
     place: u64,
     rights: u64,
-) -> Registered
+) -> (Result<(), LocalRefusal>, [Window; 16])
     ensures { result ≡ registered windows part slot key base len place rights }
 {
     if 15 < slot {
-        return refused(windows, OUT_OF_RANGE);
+        return refused(windows, LocalRefusal::OutOfRange);
     }
     let i = slot as usize;
     let done = register_in(windows[i], part, key, base, len, place, rights);
@@ -170,32 +139,33 @@ pub fn register(
 }
 
 // Drops the window w: it is dead, and its key is kept.
-pub fn drop_in(w: Window) -> WindowDone
+#[tactic(auto, unfolding(crate::specs::Window::dropped_in))]
+pub fn drop_in(w: Window) -> (Result<(), LocalRefusal>, Window)
     ensures { result ≡ dropped_in w }
 {
-    if w.live {
-        let dead = Window {
+    if !w.live {
+        return kept(w, LocalRefusal::WindowNotLive);
+    }
+    (
+        Ok(()),
+        Window {
             live: false,
             key: w.key,
             rights: 0,
             place: 0,
             len: 0,
             base: 0,
-        };
-        return WindowDone {
-            outcome: Outcome::Done,
-            window: dead,
-        };
-    }
-    kept(w, WINDOW_NOT_LIVE)
+        },
+    )
 }
 
 // Drops the window of a slot.
-pub fn drop_window(windows: [Window; 16], slot: u64) -> Registered
+#[tactic(auto, unfolding(crate::specs::Window::dropped))]
+pub fn drop_window(windows: [Window; 16], slot: u64) -> (Result<(), LocalRefusal>, [Window; 16])
     ensures { result ≡ dropped windows slot }
 {
     if 15 < slot {
-        return refused(windows, OUT_OF_RANGE);
+        return refused(windows, LocalRefusal::OutOfRange);
     }
     let i = slot as usize;
     let done = drop_in(windows[i]);
@@ -206,14 +176,7 @@ pub fn drop_window(windows: [Window; 16], slot: u64) -> Registered
 fn gather(windows: [Window; 16]) -> u16
     ensures { result ≡ live_marks windows }
 {
-    let mut marks: u16 = 0;
-    let mut i: usize = 16;
-    while 0 < i {
-        i -= 1;
-        let w = windows[i];
-        marks = push(marks, w.live);
-    }
-    marks
+    windows.iter().rev().fold(0, |marks, w| push(marks, w.live))
 }
 
 // How many windows are live.
@@ -231,14 +194,12 @@ pub fn lowest_free(windows: [Window; 16]) -> u32
 }
 
 // Whether a window is live and has the key.
+#[tactic(auto, unfolding(crate::specs::Window::named))]
 fn is_named(w: Window, key: u32) -> bool
     ensures { result ≡ named w key }
 {
-    let own = w.key as u32;
-    if w.live {
-        return key == own;
-    }
-    false
+    let own = u32::from(w.key);
+    w.live && key == own
 }
 
 // The slot of the window that an STag names, in its domain.
@@ -248,54 +209,50 @@ pub fn slot_named(stag: u32) -> usize
     (stag / 256 % 16) as usize
 }
 
-// What an STag names for a domain, whose window in the slot that it names is w. Whose it is comes
-// before whether it is live.
-pub fn find_in(w: Window, domain: u64, stag: u32) -> Found
+// The slot of the window that an STag names for a domain, whose window in that slot is w. Whose it is
+// comes before whether it is live.
+#[tactic(auto, unfolding(crate::specs::Window::found_in))]
+pub fn find_in(w: Window, domain: u64, stag: u32) -> Result<usize, StagFault>
     ensures { result ≡ found_in w domain stag }
 {
     let number = stag / 256;
-    if number < 64 {
-        let ours = (number / 16) as u64 == domain;
-        let live = is_named(w, stag % 256);
-        if ours {
-            if live {
-                return Found::Slot(slot_named(stag));
-            }
-            return Found::Missing;
-        }
-        return Found::Foreign;
+    if 63 < number {
+        return Err(StagFault::Missing);
     }
-    Found::Missing
+    let ours = u64::from(number / 16) == domain;
+    let live = is_named(w, stag % 256);
+    if !ours {
+        return Err(StagFault::Foreign);
+    }
+    if !live {
+        return Err(StagFault::Missing);
+    }
+    Ok(slot_named(stag))
 }
 
 // Whether to + len is above 2^64.
+#[tactic(auto, unfolding(crate::specs::Window::wraps))]
 pub fn wraps_around(to: u64, len: u64) -> bool
     ensures { result ≡ wraps to len }
 {
-    if len == 0 {
-        return false;
-    }
-    u64::MAX - to < len - 1
+    len != 0 && u64::MAX - to < len - 1
 }
 
-// Where the len bytes from the tagged offset to lie.
-pub fn span_of(w: Window, to: u64, len: u64) -> Span
+// The place of the store where the len bytes from the tagged offset to lie.
+#[tactic(auto, unfolding(crate::specs::Window::spanned))]
+pub fn span_of(w: Window, to: u64, len: u64) -> Result<u64, SpanFault>
     ensures { result ≡ spanned w to len }
 {
     if wraps_around(to, len) {
-        return Span::Wrap;
+        return Err(SpanFault::Wrap);
     }
-    let base = w.base;
-    if to < base {
-        return Span::Outside;
+    if to < w.base {
+        return Err(SpanFault::Outside);
     }
-    let offset = to - base;
-    let size = w.len as u64;
-    if size < offset {
-        return Span::Outside;
+    let offset = to - w.base;
+    let size = u64::from(w.len);
+    if size < offset || size - offset < len {
+        return Err(SpanFault::Outside);
     }
-    if size - offset < len {
-        return Span::Outside;
-    }
-    Span::Inside(w.place as u64 + offset)
+    Ok(u64::from(w.place) + offset)
 }

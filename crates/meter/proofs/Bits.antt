@@ -22,12 +22,16 @@ pub no_nan_bits : (n : ℕ) → n < infinity_bits → T (not (nan_bits binary64 
 no_nan_bits n h =
     subst (λ (b : Bool). T (not b)) (sym (nan_bits_above binary64 n ∙ le-ltb infinity_bits (n % top binary64) (le_trans (mod-le n (top binary64)) (le_of_lt h)))) tt
 
--- what does not differ from itself is no NaN
-pub no_nan : (x : Float) → ne x x ≡ false → T (not (is_nan x))
+-- only a NaN differs from itself
+differs : (x : Float) → ne x x ≡ is_nan x
 unfolding is_nan
-no_nan nan e = absurd (true≢false (sym nan_differs ∙ e))
-no_nan (inf s) e = tt
-no_nan (fin s m e) d = tt
+differs x = by x (ne x x) refl
+  where
+    by : (x : Float) (b : Bool) → ne x x ≡ b → ne x x ≡ is_nan x
+    by nan b e = nan_differs
+    by x true e = subst (λ (y : Float). ne y y ≡ is_nan y) (sym (differs_from_itself x (subst T (sym e) tt))) nan_differs
+    by (inf s) false e = e
+    by (fin s m k) false e = e
 
 pub at_finite : (n : ℕ) → n < infinity_bits → of_bits binary64 n ≡ level_at n
 unfolding level_at
@@ -37,17 +41,17 @@ pub at_other : (n : ℕ) (z : Float) → z ≡ whole 0 → infinity_bits ≤ n �
 unfolding level_at
 at_other n z e h = rw (le-ltb n infinity_bits h) e
 
-pub bits_nan : (x : Float) → ne x x ≡ true → 0 ≡ level_bits x
+pub bits_nan : (x : Float) → is_nan x ≡ true → 0 ≡ level_bits x
 unfolding level_bits
-bits_nan x e = rw e
+bits_nan x e = rw (differs x, e)
 
-pub bits_finite : (x : Float) → ne x x ≡ false → to_bits binary64 x < infinity_bits → to_bits binary64 x ≡ level_bits x
+pub bits_finite : (x : Float) → is_nan x ≡ false → to_bits binary64 x < infinity_bits → to_bits binary64 x ≡ level_bits x
 unfolding level_bits
-bits_finite x e h = rw (e, lt-ltb (to_bits binary64 x) infinity_bits h)
+bits_finite x e h = rw (differs x, e, lt-ltb (to_bits binary64 x) infinity_bits h)
 
-pub bits_other : (x : Float) → ne x x ≡ false → infinity_bits ≤ to_bits binary64 x → 0 ≡ level_bits x
+pub bits_other : (x : Float) → is_nan x ≡ false → infinity_bits ≤ to_bits binary64 x → 0 ≡ level_bits x
 unfolding level_bits
-bits_other x e h = rw (e, le-ltb (to_bits binary64 x) infinity_bits h)
+bits_other x e h = rw (differs x, e, le-ltb (to_bits binary64 x) infinity_bits h)
 
 -- ---- which patterns are those of a finite float of at least 0
 
@@ -136,7 +140,7 @@ bits_under x a = only-under_infinity binary64 (to_bits binary64 x) (subst (λ (z
 
 -- the guard never acts on such a float: its bits are its own
 pub level_bits_lem : (x : Float) → Amount x → level_bits x ≡ to_bits binary64 x
-level_bits_lem x a = sym (bits_finite x (self_equal x a.finite) (bits_under x a))
+level_bits_lem x a = sym (bits_finite x (sym (differs x) ∙ self_equal x a.finite) (bits_under x a))
 
 pub level_back : (x : Float) → Amount x → level_at (level_bits x) ≡ x
 level_back x a = ap level_at (level_bits_lem x a) ∙ sym (at_finite (to_bits binary64 x) (bits_under x a)) ∙ of_bits-to_bits binary64 x a.held

@@ -3,7 +3,7 @@ ghost use Rattle.std.specs.Prelude.{◌≡◌};
 ghost use Rattle.meter.specs.Gauge.{sampled_gauge, reading_of};
 
 // The level goes an eighth of the way to each later sample. The peak is the highest level so far.
-#[derive(Clone, Copy)]
+#[derive(Clone, Copy, Default)]
 pub struct Gauge {
     pub level: f64,
     pub peak: f64,
@@ -18,6 +18,7 @@ pub enum Reading {
 }
 
 // The gauge after a sample, where `ticked` says whether there was one before.
+#[tactic(auto, using(crate::proofs::Cases::eight, crate::proofs::Cases::first, crate::proofs::Cases::rises, crate::proofs::Cases::stays))]
 pub fn sampled(g: Gauge, ticked: bool, sample: u32) -> Gauge
     ensures { result ≡ sampled_gauge g ticked sample }
 {
@@ -28,6 +29,7 @@ pub fn sampled(g: Gauge, ticked: bool, sample: u32) -> Gauge
         return Gauge { level: x, peak: x };
     }
     let level = old + (x - old) / 8.0;
+    // Kept: `f64::max` is another function where the peak is a NaN.
     if peak < level {
         return Gauge { level, peak: level };
     }

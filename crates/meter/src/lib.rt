@@ -13,10 +13,12 @@ pub mod gauge;
 pub mod words;
 
 // The last count: it stops there.
-const LAST: u32 = 0xFFFF_FFFF;
+const LAST: usize = 0xFFFF_FFFF;
 
 // The bytes placed since the last tick, whether there was a tick, and the gauge.
-#[derive(Clone, Copy)]
+// Kept: `ticked` stands beside the gauge, and not an `Option` of it, since any three words are a meter (`meter_at`), also
+// those with no mark and a level that is not 0, which `meter_words` gives back.
+#[derive(Clone, Copy, Default)]
 pub struct Meter {
     pub count: u32,
     pub ticked: bool,
@@ -24,38 +26,27 @@ pub struct Meter {
 }
 
 // A meter before its first tick.
+#[tactic(auto, using(crate::proofs::Cases::zero))]
 pub fn new_meter() -> Meter
     ensures { result ≡ new_meter }
 {
-    Meter {
-        count: 0,
-        ticked: false,
-        gauge: Gauge {
-            level: 0.0,
-            peak: 0.0,
-        },
-    }
+    Meter::default()
 }
 
 // The count once more bytes are placed.
 pub fn counted(count: u32, placed: usize) -> u32
     ensures { result ≡ counted_bytes count placed }
 {
-    if placed <= (LAST - count) as usize {
-        return count + placed as u32;
-    }
-    LAST
+    (count as usize).saturating_add(placed).min(LAST) as u32
 }
 
 // The meter once more bytes are placed.
 pub fn count(m: Meter, placed: usize) -> Meter
     ensures { result ≡ counted_meter m placed }
 {
-    let gauge = m.gauge;
     Meter {
         count: counted(m.count, placed),
-        ticked: m.ticked,
-        gauge,
+        ..m
     }
 }
 
@@ -63,12 +54,10 @@ pub fn count(m: Meter, placed: usize) -> Meter
 pub fn tick(m: Meter) -> Meter
     ensures { result ≡ ticked_meter m }
 {
-    let old = m.gauge;
-    let gauge = gauge::sampled(old, m.ticked, m.count);
     Meter {
         count: 0,
         ticked: true,
-        gauge,
+        gauge: gauge::sampled(m.gauge, m.ticked, m.count),
     }
 }
 
@@ -76,6 +65,5 @@ pub fn tick(m: Meter) -> Meter
 pub fn reading(m: Meter) -> gauge::Reading
     ensures { result ≡ reading_of m.gauge m.ticked }
 {
-    let gauge = m.gauge;
-    gauge::read(gauge, m.ticked)
+    gauge::read(m.gauge, m.ticked)
 }

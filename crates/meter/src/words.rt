@@ -14,6 +14,7 @@ const INFINITY: u64 = 0x7FF0_0000_0000_0000;
 const TICKED: u64 = 0x1_0000_0000;
 
 // The float of these bits, and 0 where they are those of an infinity, a NaN or a negative float.
+#[tactic(auto, using(crate::proofs::Cases::zero, crate::proofs::Bits::no_nan_bits, crate::proofs::Bits::at_finite, crate::proofs::Bits::at_other))]
 pub fn level_at(bits: u64) -> f64
     ensures { result ≡ level_at bits }
 {
@@ -24,20 +25,19 @@ pub fn level_at(bits: u64) -> f64
 }
 
 // The bits of a float, and 0 for an infinity, a NaN or a negative float.
+#[tactic(auto, using(crate::proofs::Bits::bits_nan, crate::proofs::Bits::bits_finite, crate::proofs::Bits::bits_other))]
 pub fn level_bits(x: f64) -> u64
     ensures { result ≡ level_bits x }
 {
-    if x != x {
+    if x.is_nan() {
         return 0;
     }
-    let bits = f64::to_bits(x);
-    if bits < INFINITY {
-        return bits;
-    }
-    0
+    let bits = x.to_bits();
+    if bits < INFINITY { bits } else { 0 }
 }
 
 // The meter of three words.
+#[tactic(auto, unfolding(crate::specs::Words::meter_at))]
 pub fn decode(count: u64, level: u64, peak: u64) -> Meter
     ensures { result ≡ meter_at count level peak }
 {
@@ -52,28 +52,22 @@ pub fn decode(count: u64, level: u64, peak: u64) -> Meter
 }
 
 // The three words of a meter.
+#[tactic(auto, unfolding(crate::specs::Words::meter_words))]
 pub fn encode(m: Meter) -> [u64; 3]
     ensures { result ≡ meter_words m }
 {
-    let gauge = m.gauge;
-    let count = m.count as u64;
-    let level = level_bits(gauge.level);
-    let peak = level_bits(gauge.peak);
-    if m.ticked {
-        return [count + TICKED, level, peak];
-    }
-    [count, level, peak]
+    let mark = if m.ticked { TICKED } else { 0 };
+    let level = level_bits(m.gauge.level);
+    let peak = level_bits(m.gauge.peak);
+    [m.count as u64 + mark, level, peak]
 }
 
 // The first word of a meter once more bytes are placed. It is added to as a whole, so that it is loaded as it
 // was stored.
+#[tactic(auto, unfolding(crate::specs::Words::counted_word))]
 pub fn counted_word(word: u64, placed: usize) -> u64
     ensures { result ≡ counted_word word placed }
 {
-    let more = placed as u64;
     let left = TICKED - 1 - word % TICKED;
-    if more <= left {
-        return word + more;
-    }
-    word + left
+    word + left.min(placed as u64)
 }

@@ -10,9 +10,9 @@ use Rattle.wire.specs.Wire.{put, be16, le32}
 use Rattle.wire.proofs.Laws.{put-put, put-start, take_put, set_2, length-put}
 use Rattle.crc32c.specs.Crc.{crc_of}
 use Rattle.mpa.specs.Fpdu.{pad_of, covered_of, total_of, covered, fpdu_of, out_after}
-use Rattle.wire.specs.declared.Written.{Written}
-use Rattle.wire.specs.declared.Written.TheVariants.{Length, Refused}
 use Rattle.mpa.specs.Startup.{key_of, flags_of, startup_of}
+use Rattle.std.specs.Prelude.{Ok, Result}
+use Rattle.wire.specs.declared.refusal.LocalRefusal.{LocalRefusal}
 
 pub length-covered : (u : List ℕ) → length (covered u) ≡ covered_of (length u)
 unfolding covered
@@ -59,10 +59,6 @@ startup_put reply c r l priv h =
     ∙ ap (λ (z : List ℕ). put z 20 priv) (put-put l 0 head (be16 (length priv)) zero-le)
     ∙ put-put l 0 (head ++ be16 (length priv)) priv zero-le
 
--- a refusal, and with it the slice, which keeps its bytes
-pub refused : (k : ℕ) (v : Written) (out frame : List ℕ) → Refused k ≡ v → (Refused k ≡ v) × (out ≡ out_after v out frame)
-refused k v out frame e = (e, ap (λ (w : Written). out_after w out frame) e)
-
 -- a frame's length, and with it the slice, at whose start the frame was put
-pub written : (n : ℕ) (v : Written) (out frame last : List ℕ) → last ≡ put out 0 frame → Length n ≡ v → (Length n ≡ v) × (last ≡ out_after v out frame)
-written n v out frame last h e = (e, h ∙ put-start out frame ∙ ap (λ (w : Written). out_after w out frame) e)
+pub written : (n : ℕ) (v : Result ℕ LocalRefusal) (out frame last : List ℕ) → last ≡ put out 0 frame → Ok n ≡ v → (Ok n ≡ v) × (last ≡ out_after v out frame)
+written n v out frame last h e = (e, h ∙ put-start out frame ∙ ap (λ (w : Result ℕ LocalRefusal). out_after w out frame) e)

@@ -13,12 +13,13 @@ use borrow.Author.Tests.{ltb-false, le-ltb, eq-eqb}
 use Rattle.wire.specs.Wire.{pick, both, part, be16_at, le32, le32_at}
 use Rattle.crc32c.specs.Crc.{crc_of}
 use Rattle.mpa.specs.Fpdu.{max_ulpdu, pad_of, covered_of, total_of, covered, fpdu_of, fpdu_written, out_after, fpdu_out, fpdu_read_of, fpdu_read, crc_right}
-use Rattle.wire.specs.declared.Written.{Written}
-use Rattle.wire.specs.declared.Written.TheVariants.{Length, Refused as NotWritten}
 use Rattle.mpa.specs.declared.FpduRead.TheVariants.{Wait, Taken}
 use Rattle.wire.proofs.Laws.{le32_at_agree, agree_append, le32_at-le32}
 use Rattle.crc_bits.proofs.Range.{crc_lt}
 use Rattle.mpa.proofs.Frames.{length-covered, length_fpdu}
+use Rattle.std.specs.Prelude.{Err, Ok, Result}
+use Rattle.wire.specs.declared.refusal.LocalRefusal.{LocalRefusal}
+use Rattle.wire.specs.declared.refusal.LocalRefusal.TheVariants.{NoRoom, OverLimit}
 
 module _ (u rest : List ℕ) where
   -- the frame: what the CRC covers, the CRC, and what comes after
@@ -50,12 +51,12 @@ module _ (u rest : List ℕ) where
       ∙ ap crc_of (sym (ap (take (covered_of (length u))) split ∙ take_at (covered u) _ (covered_of (length u)) (length-covered u))))
 
   -- for every ULPDU within the limit, CRC on or off, and any bytes after the frame
-  pub read_back : (on : Bool) → length u ≤ max_ulpdu → fpdu_read on (fpdu_of u ++ rest) ≡ Taken (total_of (length u)) 2 (length u)
+  pub read_back : (on : Bool) → length u ≤ max_ulpdu → fpdu_read on (fpdu_of u ++ rest) ≡ Ok (Taken (total_of (length u)) 2 (length u))
   unfolding fpdu_read fpdu_read_of
   read_back on h =
       let n = length u in
       let bytes = fpdu_of u ++ rest in
-      ap (λ (b : Bool). pick b (Wait 2) (fpdu_read_of on bytes (be16_at bytes 0))) (le-ltb (length bytes) 2 (omega (arith, long)))
+      ap (λ (b : Bool). pick b (Ok (Wait 2)) (fpdu_read_of on bytes (be16_at bytes 0))) (le-ltb (length bytes) 2 (omega (arith, long)))
       ∙ ap (fpdu_read_of on bytes) (stated max_ulpdu (omega arith) h)
       ∙ simp (le-ltb max_ulpdu n h, le-ltb (length bytes) (total_of n) long, crc_there, passes on)
     where
@@ -75,31 +76,31 @@ pub record Accepted (n room k : ℕ) : Type 0 where
   pub total : total_of n ≡ k
   pub within : k ≤ room
 
-pub accepted : (n room k : ℕ) → fpdu_written n room ≡ Length k → Accepted n room k
+pub accepted : (n room k : ℕ) → fpdu_written n room ≡ Ok k → Accepted n room k
 unfolding fpdu_written
 accepted n room k = over (ltb max_ulpdu n) refl
   where
-    held : (b : Bool) → ltb room (total_of n) ≡ b → pick b (NotWritten 13) (Length (total_of n)) ≡ Length k → n ≤ max_ulpdu → Accepted n room k
+    held : (b : Bool) → ltb room (total_of n) ≡ b → pick b (Err NoRoom) (Ok (total_of n)) ≡ Ok k → n ≤ max_ulpdu → Accepted n room k
     held true h e l = absurd (let z : ◌≡◌ {A = ℕ} 0 1 = cc in omega arith)
     held false h e l =
         let t : total_of n ≡ k = cc in
         record { short = l; total = t; within = subst (λ (x : ℕ). x ≤ room) t (ltb-false room (total_of n) h) }
 
-    over : (b : Bool) → ltb max_ulpdu n ≡ b → pick b (NotWritten 12) (pick (ltb room (total_of n)) (NotWritten 13) (Length (total_of n))) ≡ Length k → Accepted n room k
+    over : (b : Bool) → ltb max_ulpdu n ≡ b → pick b (Err OverLimit) (pick (ltb room (total_of n)) (Err NoRoom) (Ok (total_of n))) ≡ Ok k → Accepted n room k
     over true h e = absurd (let z : ◌≡◌ {A = ℕ} 0 1 = cc in omega arith)
     over false h e = held (ltb room (total_of n)) refl e (ltb-false max_ulpdu n h)
 
 -- of the writer's own contract: where it answers a length, the slice that it leaves is read back as what was given
-module _ (u out : List ℕ) (n : ℕ) (q : fpdu_written (length u) (length out) ≡ Length n) where
+module _ (u out : List ℕ) (n : ℕ) (q : fpdu_written (length u) (length out) ≡ Ok n) where
   a : Accepted (length u) (length out) n
   a = accepted (length u) (length out) n q
 
   left : fpdu_out u out ≡ fpdu_of u ++ drop (length (fpdu_of u)) out
   unfolding fpdu_out
-  left = ap (λ (w : Written). out_after w out (fpdu_of u)) q
+  left = ap (λ (w : Result ℕ LocalRefusal). out_after w out (fpdu_of u)) q
 
-  pub written_back : (on : Bool) → (fpdu_read on (fpdu_out u out) ≡ Taken n 2 (length u)) × (part (fpdu_out u out) 2 (length u) ≡ u)
+  pub written_back : (on : Bool) → (fpdu_read on (fpdu_out u out) ≡ Ok (Taken n 2 (length u))) × (part (fpdu_out u out) 2 (length u) ≡ u)
   written_back on = (
-    ap (fpdu_read on) left ∙ read_back u (drop (length (fpdu_of u)) out) on a.short ∙ ap (λ (t : ℕ). Taken t 2 (length u)) a.total,
+    ap (fpdu_read on) left ∙ read_back u (drop (length (fpdu_of u)) out) on a.short ∙ ap (λ (t : ℕ). Ok (Taken t 2 (length u))) a.total,
     ap (λ (l : List ℕ). part l 2 (length u)) left ∙ given_back u (drop (length (fpdu_of u)) out),
   )

@@ -13,9 +13,11 @@ use Rattle.wire.specs.Wire.{pick, both, same, part, be16, be16_at}
 use Rattle.wire.proofs.Laws.{Bytes, be16-be16_at, part-add, part-one, length_part, same_refl, same-eq, both_true}
 use Rattle.mpa.specs.Startup.{max_private, key_of, flags_of, flag_m, flag_c, flag_r, startup_of, startup_written, startup_out, head_right, startup_taken, startup_read}
 use Rattle.mpa.specs.Fpdu.{out_after}
-use Rattle.wire.specs.declared.Written.{Written}
-use Rattle.wire.specs.declared.Written.TheVariants.{Length, Refused as NotWritten}
-use Rattle.mpa.specs.declared.StartupRead.TheVariants.{Wait, Refused, Taken}
+use Rattle.mpa.specs.declared.StartupRead.{StartupRead}
+use Rattle.mpa.specs.declared.StartupRead.TheVariants.{Wait, Taken}
+use Rattle.std.specs.Prelude.{Err, Ok, Result}
+use Rattle.wire.specs.declared.refusal.LocalRefusal.{LocalRefusal}
+use Rattle.wire.specs.declared.refusal.LocalRefusal.TheVariants.{BadStartup, Markers, NoRoom, OutOfRange, OverLimit}
 
 -- what `same` says of the key at hand it says of the key expected
 pub key_test : (bytes key expected : List ℕ) (r t : Bool) → key ≡ expected → r ≡ same (take 16 bytes) key → r ≡ t → same (take 16 bytes) expected ≡ t
@@ -49,7 +51,7 @@ module _ (reply c r : Bool) (priv rest : List ℕ) (h : length priv ≤ max_priv
   flags = refl
 
   -- for any private data within the limit, and any bytes after the frame
-  pub startup_back : startup_read reply (startup_of reply c r priv ++ rest) ≡ Taken (20 + length priv) c (both reply r) 20 (length priv)
+  pub startup_back : startup_read reply (startup_of reply c r priv ++ rest) ≡ Ok (Taken (20 + length priv) c (both reply r) 20 (length priv))
   unfolding startup_read startup_taken
   startup_back =
       rw right
@@ -79,37 +81,37 @@ pub counts : (reply x : Bool) → both (not reply) x ≡ false → both reply x 
 counts true x e = refl
 counts false x e = sym e
 
-pub admitted : (reply r : Bool) (n room k : ℕ) → startup_written reply r n room ≡ Length k → Admitted reply r n room k
+pub admitted : (reply r : Bool) (n room k : ℕ) → startup_written reply r n room ≡ Ok k → Admitted reply r n room k
 unfolding startup_written
 admitted reply r n room k = asked (both (not reply) r) refl
   where
-    held : (b : Bool) → ltb room (20 + n) ≡ b → pick b (NotWritten 13) (Length (20 + n)) ≡ Length k → both (not reply) r ≡ false → n ≤ max_private → Admitted reply r n room k
+    held : (b : Bool) → ltb room (20 + n) ≡ b → pick b (Err NoRoom) (Ok (20 + n)) ≡ Ok k → both (not reply) r ≡ false → n ≤ max_private → Admitted reply r n room k
     held true h e d l = absurd (let z : ◌≡◌ {A = ℕ} 0 1 = cc in omega arith)
     held false h e d l =
         let t : 20 + n ≡ k = cc in
         record { told = counts reply r d; short = l; total = t; within = subst (λ (x : ℕ). x ≤ room) t (ltb-false room (20 + n) h) }
 
-    over : (b : Bool) → ltb max_private n ≡ b → pick b (NotWritten 12) (pick (ltb room (20 + n)) (NotWritten 13) (Length (20 + n))) ≡ Length k → both (not reply) r ≡ false → Admitted reply r n room k
+    over : (b : Bool) → ltb max_private n ≡ b → pick b (Err OverLimit) (pick (ltb room (20 + n)) (Err NoRoom) (Ok (20 + n))) ≡ Ok k → both (not reply) r ≡ false → Admitted reply r n room k
     over true h e d = absurd (let z : ◌≡◌ {A = ℕ} 0 1 = cc in omega arith)
     over false h e d = held (ltb room (20 + n)) refl e d (ltb-false max_private n h)
 
-    asked : (b : Bool) → both (not reply) r ≡ b → pick b (NotWritten 1) (pick (ltb max_private n) (NotWritten 12) (pick (ltb room (20 + n)) (NotWritten 13) (Length (20 + n)))) ≡ Length k → Admitted reply r n room k
+    asked : (b : Bool) → both (not reply) r ≡ b → pick b (Err OutOfRange) (pick (ltb max_private n) (Err OverLimit) (pick (ltb room (20 + n)) (Err NoRoom) (Ok (20 + n)))) ≡ Ok k → Admitted reply r n room k
     asked true d e = absurd (let z : ◌≡◌ {A = ℕ} 0 1 = cc in omega arith)
     asked false d e = over (ltb max_private n) refl e d
 
 -- of the writer's own contract: where it answers a length, the slice that it leaves is read back as what was given
-module _ (reply c r : Bool) (priv out : List ℕ) (n : ℕ) (q : startup_written reply r (length priv) (length out) ≡ Length n) where
+module _ (reply c r : Bool) (priv out : List ℕ) (n : ℕ) (q : startup_written reply r (length priv) (length out) ≡ Ok n) where
   a : Admitted reply r (length priv) (length out) n
   a = admitted reply r (length priv) (length out) n q
 
   left : startup_out reply c r priv out ≡ startup_of reply c r priv ++ drop (length (startup_of reply c r priv)) out
   unfolding startup_out
-  left = ap (λ (w : Written). out_after w out (startup_of reply c r priv)) q
+  left = ap (λ (w : Result ℕ LocalRefusal). out_after w out (startup_of reply c r priv)) q
 
-  pub startup_written_back : (startup_read reply (startup_out reply c r priv out) ≡ Taken n c r 20 (length priv)) × (part (startup_out reply c r priv out) 20 (length priv) ≡ priv)
+  pub startup_written_back : (startup_read reply (startup_out reply c r priv out) ≡ Ok (Taken n c r 20 (length priv))) × (part (startup_out reply c r priv out) 20 (length priv) ≡ priv)
   startup_written_back =
       let rest : List ℕ = drop (length (startup_of reply c r priv)) out in (
-        ap (startup_read reply) left ∙ startup_back reply c r priv rest a.short ∙ ap₂ (λ (t : ℕ) (d : Bool). Taken t c d 20 (length priv)) a.total a.told,
+        ap (startup_read reply) left ∙ startup_back reply c r priv rest a.short ∙ ap₂ (λ (t : ℕ) (d : Bool). Ok (Taken t c d 20 (length priv))) a.total a.told,
         ap (λ (l : List ℕ). part l 20 (length priv)) left ∙ private_back reply c r priv rest a.short,
       )
 
@@ -133,11 +135,11 @@ module _ (reply : Bool) (bytes : List ℕ) (t : ℕ) (c r : Bool) (s n : ℕ) wh
   abbrev m : ℕ
   m = be16_at bytes 18
 
-  pub started : startup_read reply bytes ≡ Taken t c r s n → Started reply bytes t c r s n
+  pub started : startup_read reply bytes ≡ Ok (Taken t c r s n) → Started reply bytes t c r s n
   unfolding startup_read startup_taken
   started = enough (ltb (length bytes) 20) refl
     where
-      there : (b : Bool) → ltb (length bytes) (20 + m) ≡ b → pick b (Wait (20 + m)) (Taken (20 + m) (flag_c f) (both reply (flag_r f)) 20 m) ≡ Taken t c r s n → head_right reply bytes ≡ true → f < 128 → Started reply bytes t c r s n
+      there : (b : Bool) → ltb (length bytes) (20 + m) ≡ b → ◌≡◌ {A = Result StartupRead LocalRefusal} (Ok (pick b (Wait (20 + m)) (Taken (20 + m) (flag_c f) (both reply (flag_r f)) 20 m))) (Ok (Taken t c r s n)) → head_right reply bytes ≡ true → f < 128 → Started reply bytes t c r s n
       there true e q h k = absurd (let z : ◌≡◌ {A = ℕ} 0 1 = cc in omega arith)
       there false e q h k =
           let a = both_true (same (take 16 bytes) (key_of reply)) (both (eqb (get_or bytes 17 0) 1) (leb m max_private)) h in
@@ -156,20 +158,20 @@ module _ (reply : Bool) (bytes : List ℕ) (t : ℕ) (c r : Bool) (s n : ℕ) wh
             whole = subst (λ (x : ℕ). 20 + x ≤ length bytes) v (ltb-false (length bytes) (20 + m) e);
           }
 
-      clear : (b : Bool) → flag_m f ≡ b → pick b (Refused 15) (startup_taken reply bytes) ≡ Taken t c r s n → head_right reply bytes ≡ true → Started reply bytes t c r s n
+      clear : (b : Bool) → flag_m f ≡ b → pick b (Err Markers) (Ok (startup_taken reply bytes)) ≡ Ok (Taken t c r s n) → head_right reply bytes ≡ true → Started reply bytes t c r s n
       clear true e q h = absurd (let z : ◌≡◌ {A = ℕ} 0 1 = cc in omega arith)
       clear false e q h = there (ltb (length bytes) (20 + m)) refl q h (leb-false 0x80 f e)
 
-      headed : (b : Bool) → head_right reply bytes ≡ b → pick b (pick (flag_m f) (Refused 15) (startup_taken reply bytes)) (Refused 14) ≡ Taken t c r s n → Started reply bytes t c r s n
+      headed : (b : Bool) → head_right reply bytes ≡ b → pick b (pick (flag_m f) (Err Markers) (Ok (startup_taken reply bytes))) (Err BadStartup) ≡ Ok (Taken t c r s n) → Started reply bytes t c r s n
       headed true e q = clear (flag_m f) refl q e
       headed false e q = absurd (let z : ◌≡◌ {A = ℕ} 0 1 = cc in omega arith)
 
-      enough : (b : Bool) → ltb (length bytes) 20 ≡ b → pick b (Wait 20) (pick (head_right reply bytes) (pick (flag_m f) (Refused 15) (startup_taken reply bytes)) (Refused 14)) ≡ Taken t c r s n → Started reply bytes t c r s n
+      enough : (b : Bool) → ltb (length bytes) 20 ≡ b → pick b (Ok (Wait 20)) (pick (head_right reply bytes) (pick (flag_m f) (Err Markers) (Ok (startup_taken reply bytes))) (Err BadStartup)) ≡ Ok (Taken t c r s n) → Started reply bytes t c r s n
       enough true e q = absurd (let z : ◌≡◌ {A = ℕ} 0 1 = cc in omega arith)
       enough false e q = headed (head_right reply bytes) refl q
 
 -- the private data lies in the bytes
-pub private_inside : (reply : Bool) (bytes : List ℕ) (t : ℕ) (c r : Bool) (s n : ℕ) → startup_read reply bytes ≡ Taken t c r s n → s + n ≤ length bytes
+pub private_inside : (reply : Bool) (bytes : List ℕ) (t : ℕ) (c r : Bool) (s n : ℕ) → startup_read reply bytes ≡ Ok (Taken t c r s n) → s + n ≤ length bytes
 private_inside reply bytes t c r s n q = let k = started reply bytes t c r s n q in omega (arith, k.start, k.whole)
 
 -- flags with M and the reserved bits clear are C and R
@@ -184,7 +186,7 @@ flags_are f h e = go (f / 32) (omega arith)
     go (suc (suc (suc (suc q)))) d = absurd (omega arith)
 
 -- a taken frame whose reserved bits are zero, R of a request among them, is the one that we would write of what was taken
-module _ (reply : Bool) (bytes : List ℕ) (b : Bytes bytes) (t : ℕ) (c r : Bool) (s n : ℕ) (q : startup_read reply bytes ≡ Taken t c r s n) where
+module _ (reply : Bool) (bytes : List ℕ) (b : Bytes bytes) (t : ℕ) (c r : Bool) (s n : ℕ) (q : startup_read reply bytes ≡ Ok (Taken t c r s n)) where
   k : Started reply bytes t c r s n
   k = started reply bytes t c r s n q
 

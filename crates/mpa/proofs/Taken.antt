@@ -13,7 +13,11 @@ use Rattle.wire.specs.Wire.{pick, both, part, be16, be16_at, le32, le32_at}
 use Rattle.wire.proofs.Laws.{Bytes, be16-be16_at, le32-le32_at, part-add, length_part}
 use Rattle.crc32c.specs.Crc.{crc_of}
 use Rattle.mpa.specs.Fpdu.{max_ulpdu, pad_of, covered_of, total_of, covered, fpdu_of, fpdu_read_of, fpdu_read, crc_right}
-use Rattle.mpa.specs.declared.FpduRead.TheVariants.{Wait, Refused, Taken}
+use Rattle.mpa.specs.declared.FpduRead.{FpduRead}
+use Rattle.mpa.specs.declared.FpduRead.TheVariants.{Wait, Taken}
+use Rattle.std.specs.Prelude.{Err, Ok, Result}
+use Rattle.mpa.specs.declared.FpduFault.{FpduFault}
+use Rattle.mpa.specs.declared.FpduFault.TheVariants.{CrcError, UlpduTooLong}
 
 -- what a taken frame tells
 pub record Took (on : Bool) (bytes : List ℕ) (t s n : ℕ) : Type 0 where
@@ -28,11 +32,11 @@ module _ (on : Bool) (bytes : List ℕ) (t s n : ℕ) where
   abbrev m : ℕ
   m = be16_at bytes 0
 
-  pub took : fpdu_read on bytes ≡ Taken t s n → Took on bytes t s n
+  pub took : fpdu_read on bytes ≡ Ok (Taken t s n) → Took on bytes t s n
   unfolding fpdu_read fpdu_read_of
   took = two (ltb (length bytes) 2) refl
     where
-      done : Taken (total_of m) 2 m ≡ Taken t s n → m ≤ max_ulpdu → total_of m ≤ length bytes → (on ≡ true → crc_right bytes m ≡ true) → Took on bytes t s n
+      done : ◌≡◌ {A = Result FpduRead FpduFault} (Ok (Taken (total_of m) 2 m)) (Ok (Taken t s n)) → m ≤ max_ulpdu → total_of m ≤ length bytes → (on ≡ true → crc_right bytes m ≡ true) → Took on bytes t s n
       done q h l k =
           let e : m ≡ n = cc in
           record {
@@ -44,28 +48,28 @@ module _ (on : Bool) (bytes : List ℕ) (t s n : ℕ) where
             crc = λ o. eqb-true _ _ (subst (λ (x : ℕ). crc_right bytes x ≡ true) e (k o));
           }
 
-      checked : (b c : Bool) → both on (not c) ≡ b → crc_right bytes m ≡ c → pick b (Refused 21) (Taken (total_of m) 2 m) ≡ Taken t s n → m ≤ max_ulpdu → total_of m ≤ length bytes → Took on bytes t s n
+      checked : (b c : Bool) → both on (not c) ≡ b → crc_right bytes m ≡ c → pick b (Err CrcError) (Ok (Taken (total_of m) 2 m)) ≡ Ok (Taken t s n) → m ≤ max_ulpdu → total_of m ≤ length bytes → Took on bytes t s n
       checked true c e d q h l = absurd (let z : ◌≡◌ {A = ℕ} 0 1 = cc in omega arith)
       checked false c e d q h l = done q h l (λ o. d ∙ not-false c (subst (λ (x : Bool). both x (not c) ≡ false) o e))
 
-      there : (b : Bool) → ltb (length bytes) (total_of m) ≡ b → pick b (Wait (total_of m)) (pick (both on (not (crc_right bytes m))) (Refused 21) (Taken (total_of m) 2 m)) ≡ Taken t s n → m ≤ max_ulpdu → Took on bytes t s n
+      there : (b : Bool) → ltb (length bytes) (total_of m) ≡ b → pick b (Ok (Wait (total_of m))) (pick (both on (not (crc_right bytes m))) (Err CrcError) (Ok (Taken (total_of m) 2 m))) ≡ Ok (Taken t s n) → m ≤ max_ulpdu → Took on bytes t s n
       there true e q h = absurd (let z : ◌≡◌ {A = ℕ} 0 1 = cc in omega arith)
       there false e q h = checked (both on (not (crc_right bytes m))) (crc_right bytes m) refl refl q h (ltb-false (length bytes) (total_of m) e)
 
-      short : (b : Bool) → ltb max_ulpdu m ≡ b → pick b (Refused 20) (pick (ltb (length bytes) (total_of m)) (Wait (total_of m)) (pick (both on (not (crc_right bytes m))) (Refused 21) (Taken (total_of m) 2 m))) ≡ Taken t s n → Took on bytes t s n
+      short : (b : Bool) → ltb max_ulpdu m ≡ b → pick b (Err UlpduTooLong) (pick (ltb (length bytes) (total_of m)) (Ok (Wait (total_of m))) (pick (both on (not (crc_right bytes m))) (Err CrcError) (Ok (Taken (total_of m) 2 m)))) ≡ Ok (Taken t s n) → Took on bytes t s n
       short true e q = absurd (let z : ◌≡◌ {A = ℕ} 0 1 = cc in omega arith)
       short false e q = there (ltb (length bytes) (total_of m)) refl q (ltb-false max_ulpdu m e)
 
-      two : (b : Bool) → ltb (length bytes) 2 ≡ b → pick b (Wait 2) (fpdu_read_of on bytes m) ≡ Taken t s n → Took on bytes t s n
+      two : (b : Bool) → ltb (length bytes) 2 ≡ b → pick b (Ok (Wait 2)) (fpdu_read_of on bytes m) ≡ Ok (Taken t s n) → Took on bytes t s n
       two true e q = absurd (let z : ◌≡◌ {A = ℕ} 0 1 = cc in omega arith)
       two false e q = short (ltb max_ulpdu m) refl q
 
 -- the ULPDU lies in the bytes
-pub ulpdu_inside : (on : Bool) (bytes : List ℕ) (t s n : ℕ) → fpdu_read on bytes ≡ Taken t s n → s + n ≤ length bytes
+pub ulpdu_inside : (on : Bool) (bytes : List ℕ) (t s n : ℕ) → fpdu_read on bytes ≡ Ok (Taken t s n) → s + n ≤ length bytes
 ulpdu_inside on bytes t s n q = let k = took on bytes t s n q in omega (arith, k.start, k.whole)
 
 -- with the CRC on, the four CRC bytes of a taken frame are the definition's, the least significant first
-module _ (bytes : List ℕ) (b : Bytes bytes) (t s n : ℕ) (q : fpdu_read true bytes ≡ Taken t s n) where
+module _ (bytes : List ℕ) (b : Bytes bytes) (t s n : ℕ) (q : fpdu_read true bytes ≡ Ok (Taken t s n)) where
   k : Took true bytes t s n
   k = took true bytes t s n q
 

@@ -1,11 +1,13 @@
 -- FPDUs (RFC 5044, section 4): what one is, what writing one does and what reading one finds.
-use Rattle.std.specs.Prelude.{ℕ, ◌+◌, ◌-◌, ◌%◌, Bool, not, List, ◌++◌, length, take, drop, replicate, ltb, eqb}
+use Rattle.std.specs.Prelude.{ℕ, ◌+◌, ◌-◌, ◌%◌, Bool, not, List, ◌++◌, length, take, drop, replicate, ltb, eqb, Err, Ok, Result}
 use Rattle.wire.specs.Wire.{pick, both, be16, be16_at, le32, le32_at}
 use Rattle.crc32c.specs.Crc.{crc_of}
-use Rattle.wire.specs.declared.Written.{Written}
-use Rattle.wire.specs.declared.Written.TheVariants.{Length, Refused as NotWritten}
 use Rattle.mpa.specs.declared.FpduRead.{FpduRead}
-use Rattle.mpa.specs.declared.FpduRead.TheVariants.{Wait, Refused, Taken}
+use Rattle.mpa.specs.declared.FpduRead.TheVariants.{Wait, Taken}
+use Rattle.mpa.specs.declared.FpduFault.{FpduFault}
+use Rattle.mpa.specs.declared.FpduFault.TheVariants.{CrcError, UlpduTooLong}
+use Rattle.wire.specs.declared.refusal.LocalRefusal.{LocalRefusal}
+use Rattle.wire.specs.declared.refusal.LocalRefusal.TheVariants.{NoRoom, OverLimit}
 
 -- "ULPDU: 0 to 2,048 bytes at this layer"; "Raise the ULPDU limit from 2,048 to 8,192 everywhere it is named"
 abbrev pub max_ulpdu : ℕ
@@ -40,16 +42,16 @@ abbrev pub over : List ℕ → List ℕ → List ℕ
 over out frame = frame ++ drop (length frame) out
 
 -- writing the FPDU of n bytes of ULPDU into room bytes: 12 ULPDU over the limit, 13 output slice too small, or its length
-unfoldable pub fpdu_written : ℕ → ℕ → Written
+unfoldable pub fpdu_written : ℕ → ℕ → Result ℕ LocalRefusal
 fpdu_written n room =
-    pick (ltb max_ulpdu n) (NotWritten 12)
-    (pick (ltb room (total_of n)) (NotWritten 13)
-    (Length (total_of n)))
+    pick (ltb max_ulpdu n) (Err OverLimit)
+    (pick (ltb room (total_of n)) (Err NoRoom)
+    (Ok (total_of n)))
 
 -- the slice after a writer's answer: it has the frame at its start or, refused, keeps every byte
-abbrev pub out_after : Written → List ℕ → List ℕ → List ℕ
-out_after (Length n) out frame = over out frame
-out_after (NotWritten k) out frame = out
+abbrev pub out_after : Result ℕ LocalRefusal → List ℕ → List ℕ → List ℕ
+out_after (Ok n) out frame = over out frame
+out_after (Err k) out frame = out
 
 unfoldable pub fpdu_out : List ℕ → List ℕ → List ℕ
 fpdu_out u out = out_after (fpdu_written (length u) (length out)) out (fpdu_of u)
@@ -59,13 +61,18 @@ abbrev pub crc_right : List ℕ → ℕ → Bool
 crc_right bytes n = eqb (le32_at bytes (covered_of n)) (crc_of (take (covered_of n) bytes))
 
 -- reading the first FPDU of the bytes, with the CRC on or off: what is asked once the length n is there
-unfoldable pub fpdu_read_of : Bool → List ℕ → ℕ → FpduRead
+unfoldable pub fpdu_read_of : Bool → List ℕ → ℕ → Result FpduRead FpduFault
 fpdu_read_of on bytes n =
-    pick (ltb max_ulpdu n) (Refused 20)
-    (pick (ltb (length bytes) (total_of n)) (Wait (total_of n))
-    (pick (both on (not (crc_right bytes n))) (Refused 21)
-    (Taken (total_of n) 2 n)))
+    pick (ltb max_ulpdu n) (Err UlpduTooLong)
+    (pick (ltb (length bytes) (total_of n)) (Ok (Wait (total_of n)))
+    (pick (both on (not (crc_right bytes n))) (Err CrcError)
+    (Ok (Taken (total_of n) 2 n))))
 
 -- "under 2 bytes Wait 2; then 20 is asked; then, with fewer than the FPDU's total, Wait total"; 21 CRC on and wrong; or the total and where the ULPDU lies
-unfoldable pub fpdu_read : Bool → List ℕ → FpduRead
-fpdu_read on bytes = pick (ltb (length bytes) 2) (Wait 2) (fpdu_read_of on bytes (be16_at bytes 0))
+unfoldable pub fpdu_read : Bool → List ℕ → Result FpduRead FpduFault
+fpdu_read on bytes = pick (ltb (length bytes) 2) (Ok (Wait 2)) (fpdu_read_of on bytes (be16_at bytes 0))
+
+-- the refusals of an FPDU by number
+unfoldable pub fault_number : FpduFault → ℕ
+fault_number UlpduTooLong = 20
+fault_number CrcError = 21

@@ -1,11 +1,11 @@
 -- Startup frames (RFC 5044, section 7.1), revision 1.
-use Rattle.std.specs.Prelude.{ℕ, ◌+◌, ◌/◌, ◌%◌, Bool, true, not, List, [], ◌∷◌, ◌++◌, length, take, get_or, ltb, leb, eqb}
+use Rattle.std.specs.Prelude.{ℕ, ◌+◌, ◌/◌, ◌%◌, Bool, true, not, List, [], ◌∷◌, ◌++◌, length, take, get_or, ltb, leb, eqb, Err, Ok, Result}
 use Rattle.wire.specs.Wire.{pick, both, same, be16, be16_at}
 use Rattle.mpa.specs.Fpdu.{out_after}
-use Rattle.wire.specs.declared.Written.{Written}
-use Rattle.wire.specs.declared.Written.TheVariants.{Length, Refused as NotWritten}
 use Rattle.mpa.specs.declared.StartupRead.{StartupRead}
-use Rattle.mpa.specs.declared.StartupRead.TheVariants.{Wait, Refused, Taken}
+use Rattle.mpa.specs.declared.StartupRead.TheVariants.{Wait, Taken}
+use Rattle.wire.specs.declared.refusal.LocalRefusal.{LocalRefusal}
+use Rattle.wire.specs.declared.refusal.LocalRefusal.TheVariants.{BadStartup, Markers, NoRoom, OutOfRange, OverLimit}
 
 -- "private data length (2 bytes, at most 512)"
 abbrev pub max_private : ℕ
@@ -35,12 +35,12 @@ unfoldable pub startup_of : Bool → Bool → Bool → List ℕ → List ℕ
 startup_of reply c r priv = key_of reply ++ (flags_of c r ∷ 1 ∷ (be16 (length priv) ++ priv))
 
 -- writing one with n bytes of private data into room bytes: 1 R asked for in a request, 12 private data over 512, 13 output slice too small
-unfoldable pub startup_written : Bool → Bool → ℕ → ℕ → Written
+unfoldable pub startup_written : Bool → Bool → ℕ → ℕ → Result ℕ LocalRefusal
 startup_written reply r n room =
-    pick (both (not reply) r) (NotWritten 1)
-    (pick (ltb max_private n) (NotWritten 12)
-    (pick (ltb room (20 + n)) (NotWritten 13)
-    (Length (20 + n))))
+    pick (both (not reply) r) (Err OutOfRange)
+    (pick (ltb max_private n) (Err OverLimit)
+    (pick (ltb room (20 + n)) (Err NoRoom)
+    (Ok (20 + n))))
 
 unfoldable pub startup_out : Bool → Bool → Bool → List ℕ → List ℕ → List ℕ
 startup_out reply c r priv out = out_after (startup_written reply r (length priv) (length out)) out (startup_of reply c r priv)
@@ -56,12 +56,12 @@ startup_taken reply bytes =
     (Taken (20 + be16_at bytes 18) (flag_c (get_or bytes 16 0)) (both reply (flag_r (get_or bytes 16 0))) 20 (be16_at bytes 18))
 
 -- "With under 20 bytes Wait 20; then 14 (wrong key, revision or length) and 15 (the peer asks for markers) are asked of the first 20 bytes, R set or not; then, under the stated total, Wait total"
-unfoldable pub startup_read : Bool → List ℕ → StartupRead
+unfoldable pub startup_read : Bool → List ℕ → Result StartupRead LocalRefusal
 startup_read reply bytes =
-    pick (ltb (length bytes) 20) (Wait 20)
+    pick (ltb (length bytes) 20) (Ok (Wait 20))
     (pick (head_right reply bytes)
-    (pick (flag_m (get_or bytes 16 0)) (Refused 15) (startup_taken reply bytes))
-    (Refused 14))
+    (pick (flag_m (get_or bytes 16 0)) (Err Markers) (Ok (startup_taken reply bytes)))
+    (Err BadStartup))
 
 -- "The CRC is used if either side sets C"
 abbrev pub crc_used : Bool → Bool → Bool

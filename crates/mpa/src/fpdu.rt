@@ -4,12 +4,11 @@ ghost use Rattle.crc32c.specs.Crc.{crc_of};
 ghost use Rattle.wire.specs.Wire.{put};
 ghost use Rattle.mpa.specs.Fpdu.{max_ulpdu, pad_of, covered_of, total_of, needed_for, covered, fpdu_of, fpdu_written, fpdu_out, crc_right, fpdu_read_of, fpdu_read};
 
-use crate::FpduRead;
-use crate::refusal::{NO_ROOM, OVER_LIMIT, ULPDU_OVER_LIMIT, WRONG_CRC};
+use crate::{FpduFault, FpduRead};
 use crc32c::{ALL_ONES, crc32c, update};
-use wire::Written;
 use wire::copy::{clear, copy};
 use wire::number::{get_be16, get_le32, put_be16, put_le32};
+use wire::refusal::LocalRefusal;
 
 // The longest ULPDU. Every other length that follows from it is worked out from here.
 pub const MAX_ULPDU: usize = 8192;
@@ -87,19 +86,20 @@ fn write_whole(ulpdu: &[u8], out: &mut [u8])
 }
 
 // Writes the FPDU of a ULPDU, with its CRC, to the start of out.
-pub fn write_fpdu(ulpdu: &[u8], out: &mut [u8]) -> Written
+#[tactic(auto, unfolding(crate::specs::Fpdu::fpdu_written, crate::specs::Fpdu::fpdu_out))]
+pub fn write_fpdu(ulpdu: &[u8], out: &mut [u8]) -> Result<usize, LocalRefusal>
     ensures { (result ≡ fpdu_written (length ulpdu.now) (length out.old)) × (out.new ≡ fpdu_out ulpdu.now out.old) }
 {
     let size = ulpdu.len();
     let total = total_length(size);
     if MAX_ULPDU < size {
-        return Written::Refused(OVER_LIMIT);
+        return Err(LocalRefusal::OverLimit);
     }
     if out.len() < total {
-        return Written::Refused(NO_ROOM);
+        return Err(LocalRefusal::NoRoom);
     }
     write_whole(ulpdu, out);
-    Written::Length(total)
+    Ok(total)
 }
 
 // Whether the four bytes after length, ULPDU and pad are the CRC of those.
@@ -112,42 +112,35 @@ fn crc_right(bytes: &[u8], n: usize) -> bool
 }
 
 // What the first FPDU of bytes is, whose length field is n.
-fn read_of(crc: bool, bytes: &[u8], n: usize) -> FpduRead
+#[tactic(auto, unfolding(crate::specs::Fpdu::fpdu_read_of))]
+fn read_of(crc: bool, bytes: &[u8], n: usize) -> Result<FpduRead, FpduFault>
     requires { n < 65536 }
     ensures { result ≡ fpdu_read_of crc bytes.now n }
 {
     let total = total_length(n);
     if MAX_ULPDU < n {
-        return FpduRead::Refused(ULPDU_OVER_LIMIT);
+        return Err(FpduFault::UlpduTooLong);
     }
     if bytes.len() < total {
-        return FpduRead::Wait(total);
+        return Ok(FpduRead::Wait(total));
     }
-    if crc {
-        if crc_right(bytes, n) {
-            FpduRead::Taken {
-                total,
-                start: 2,
-                len: n,
-            }
-        } else {
-            FpduRead::Refused(WRONG_CRC)
-        }
-    } else {
-        FpduRead::Taken {
-            total,
-            start: 2,
-            len: n,
-        }
+    if crc && !crc_right(bytes, n) {
+        return Err(FpduFault::CrcError);
     }
+    Ok(FpduRead::Taken {
+        total,
+        start: 2,
+        len: n,
+    })
 }
 
 // What the first FPDU of bytes is, with the CRC on or off.
-pub fn read_fpdu(crc: bool, bytes: &[u8]) -> FpduRead
+#[tactic(auto, unfolding(crate::specs::Fpdu::fpdu_read))]
+pub fn read_fpdu(crc: bool, bytes: &[u8]) -> Result<FpduRead, FpduFault>
     ensures { result ≡ fpdu_read crc bytes.now }
 {
     if bytes.len() < 2 {
-        return FpduRead::Wait(2);
+        return Ok(FpduRead::Wait(2));
     }
     read_of(crc, bytes, get_be16(bytes, 0))
 }

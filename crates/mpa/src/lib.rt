@@ -2,21 +2,39 @@
 // (startup, section 7.1), each written and read. A writer fills a slice that the caller lends; a
 // reader says what it found at the start of the bytes at hand, or how many it waits for.
 //
-// Read `FpduRead` and `StartupRead` first: with `Written` of `wire` they are the answers. The
-// definitions that the contracts cite are in specs/Fpdu.antt and specs/Startup.antt, the refusals'
-// numbers in refusal. No public function has a `requires`: each answers whatever comes.
+// Read `FpduRead` and `StartupRead` first, which the readers answer unless they refuse; a writer answers
+// the length of what it wrote. The definitions that the contracts cite are in specs/Fpdu.antt and
+// specs/Startup.antt. No public function has a `requires`: each answers whatever comes.
 #![tactic(auto)]
 
+ghost use Rattle.std.specs.Prelude.{◌≡◌};
+ghost use Rattle.mpa.specs.Fpdu.{fault_number};
+
 pub mod fpdu;
-pub mod refusal;
 pub mod startup;
 
-// What the first FPDU of some bytes is: not whole yet, with the number of bytes to wait for;
-// refused; or whole, with its length and where in it the ULPDU lies.
+// Why an FPDU is refused: its ULPDU is over the limit, or the CRC is on and wrong.
+#[derive(Clone, Copy, Debug, PartialEq, Eq)]
+pub enum FpduFault {
+    UlpduTooLong = 20,
+    CrcError = 21,
+}
+
+impl FpduFault {
+    // Its number in the paper's table.
+    #[tactic(auto, unfolding(crate::specs::Fpdu::fault_number))]
+    pub fn number(self) -> u8
+        ensures { result ≡ fault_number self }
+    {
+        self as u8
+    }
+}
+
+// What the first FPDU of some bytes is: not whole yet, with the number of bytes to wait for; or whole,
+// with its length and where in it the ULPDU lies.
 #[derive(Drop)]
 pub enum FpduRead {
     Wait(usize),
-    Refused(u8),
     Taken {
         total: usize,
         start: usize,
@@ -29,7 +47,6 @@ pub enum FpduRead {
 #[derive(Drop)]
 pub enum StartupRead {
     Wait(usize),
-    Refused(u8),
     Taken {
         total: usize,
         crc: bool,

@@ -1,13 +1,12 @@
 // Startup frames (RFC 5044, section 7.1): key, flags, revision, private data length, private data.
-ghost use Rattle.std.specs.Prelude.{◌≡◌, not, ◌+◌, ◌≤◌, length};
+ghost use Rattle.std.specs.Prelude.{◌≡◌, not, ◌+◌, ◌≤◌, length, IfOk};
 ghost use Rattle.wire.specs.Wire.{put, both};
 ghost use Rattle.mpa.specs.Startup.{max_private, key_of, flags_of, flag_c, flag_r, startup_of, startup_written, startup_out, head_right, startup_taken, startup_read, crc_used};
 
 use crate::StartupRead;
-use crate::refusal::{BAD_STARTUP, MARKERS, NO_ROOM, OUT_OF_RANGE, OVER_LIMIT};
-use wire::Written;
 use wire::copy::{copy, same};
 use wire::number::{get_be16, put_be16};
+use wire::refusal::LocalRefusal;
 
 // The longest private data.
 pub const MAX_PRIVATE_DATA: usize = 512;
@@ -48,18 +47,14 @@ pub fn key_of(reply: bool) -> [u8; 16]
 pub fn flags_of(crc: bool, declined: bool) -> u8
     ensures { result ≡ flags_of crc declined }
 {
-    if crc {
-        if declined { FLAG_C + FLAG_R } else { FLAG_C }
-    } else {
-        if declined { FLAG_R } else { 0 }
-    }
+    (if crc { FLAG_C } else { 0 }) + (if declined { FLAG_R } else { 0 })
 }
 
 // Whether R is asked for in a request.
 pub fn request_declines(reply: bool, declined: bool) -> bool
     ensures { result ≡ both (not reply) declined }
 {
-    if reply { false } else { declined }
+    !reply && declined
 }
 
 // Writes the frame to the start of out.
@@ -75,29 +70,39 @@ fn write_whole(reply: bool, crc: bool, declined: bool, private_data: &[u8], out:
     copy(out, HEAD, private_data);
 }
 
+// What a writer of n bytes of private data into room bytes answers.
+#[tactic(auto, unfolding(crate::specs::Startup::startup_written))]
+pub fn admit(reply: bool, declined: bool, n: usize, room: usize) -> Result<usize, LocalRefusal>
+    ensures answer { result ≡ startup_written reply declined n room }
+    ensures fits { IfOk result (λ total. (total ≡ 20 + n) × (n ≤ max_private) × (total ≤ room)) }
+{
+    if request_declines(reply, declined) {
+        return Err(LocalRefusal::OutOfRange);
+    }
+    if MAX_PRIVATE_DATA < n {
+        return Err(LocalRefusal::OverLimit);
+    }
+    let total = HEAD + n;
+    if room < total {
+        return Err(LocalRefusal::NoRoom);
+    }
+    Ok(total)
+}
+
 // Writes a startup frame to the start of out.
+#[tactic(auto, unfolding(crate::specs::Startup::startup_written, crate::specs::Startup::startup_out))]
 pub fn write_startup(
     reply: bool,
     crc: bool,
     declined: bool,
     private_data: &[u8],
     out: &mut [u8],
-) -> Written
+) -> Result<usize, LocalRefusal>
     ensures { (result ≡ startup_written reply declined (length private_data.now) (length out.old)) × (out.new ≡ startup_out reply crc declined private_data.now out.old) }
 {
-    if request_declines(reply, declined) {
-        return Written::Refused(OUT_OF_RANGE);
-    }
-    let n = private_data.len();
-    let total = HEAD + n;
-    if MAX_PRIVATE_DATA < n {
-        return Written::Refused(OVER_LIMIT);
-    }
-    if out.len() < total {
-        return Written::Refused(NO_ROOM);
-    }
+    let total = admit(reply, declined, private_data.len(), out.len())?;
     write_whole(reply, crc, declined, private_data, out);
-    Written::Length(total)
+    Ok(total)
 }
 
 // Whether the frame's head has the key expected, the revision and a length within the limit.
@@ -106,15 +111,7 @@ fn head_right(reply: bool, bytes: &[u8]) -> bool
     ensures { result ≡ head_right reply bytes.now }
 {
     let key = key_of(reply);
-    if same(&bytes[..16], &key) {
-        if bytes[17] == REVISION {
-            get_be16(bytes, 18) <= MAX_PRIVATE_DATA
-        } else {
-            false
-        }
-    } else {
-        false
-    }
+    same(&bytes[..16], &key) && bytes[17] == REVISION && get_be16(bytes, 18) <= MAX_PRIVATE_DATA
 }
 
 // C of the flags.
@@ -128,14 +125,11 @@ pub fn flag_c(flags: u8) -> bool
 pub fn declines(reply: bool, flags: u8) -> bool
     ensures { result ≡ both reply (flag_r flags) }
 {
-    if reply {
-        flags / FLAG_R % 2 == 1
-    } else {
-        false
-    }
+    reply && flags / FLAG_R % 2 == 1
 }
 
 // What the frame is once its head is right.
+#[tactic(auto, unfolding(crate::specs::Startup::startup_taken))]
 fn taken(reply: bool, bytes: &[u8]) -> StartupRead
     requires { 20 ≤ length bytes.now }
     ensures { result ≡ startup_taken reply bytes.now }
@@ -156,26 +150,25 @@ fn taken(reply: bool, bytes: &[u8]) -> StartupRead
 }
 
 // What the startup frame at the start of bytes is, of a request or a reply as told.
-pub fn read_startup(reply: bool, bytes: &[u8]) -> StartupRead
+#[tactic(auto, unfolding(crate::specs::Startup::startup_read))]
+pub fn read_startup(reply: bool, bytes: &[u8]) -> Result<StartupRead, LocalRefusal>
     ensures { result ≡ startup_read reply bytes.now }
 {
     if bytes.len() < HEAD {
-        return StartupRead::Wait(HEAD);
+        return Ok(StartupRead::Wait(HEAD));
     }
-    let wrong = !head_right(reply, bytes);
-    let marked = FLAG_M <= bytes[16];
-    if wrong {
-        return StartupRead::Refused(BAD_STARTUP);
+    if !head_right(reply, bytes) {
+        return Err(LocalRefusal::BadStartup);
     }
-    if marked {
-        return StartupRead::Refused(MARKERS);
+    if FLAG_M <= bytes[16] {
+        return Err(LocalRefusal::Markers);
     }
-    taken(reply, bytes)
+    Ok(taken(reply, bytes))
 }
 
 // Whether the CRC is used, where each side has set C or not.
 pub fn crc_used(ours: bool, theirs: bool) -> bool
     ensures { result ≡ crc_used ours theirs }
 {
-    if ours { true } else { theirs }
+    ours || theirs
 }

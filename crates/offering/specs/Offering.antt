@@ -1,12 +1,9 @@
 -- The commands `offer` and `held`: what a line asks, as the script format's table of commands has it, over the words of the line.
 -- Assumes nothing.
-use Rattle.std.specs.Prelude.{ℕ, ◌≤◌, Bool, true, ◌≡◌, List, [], ◌∷◌, length, take, eqb, leb}
+use Rattle.std.specs.Prelude.{ℕ, ◌≤◌, Bool, true, ◌≡◌, List, [], ◌∷◌, Option, Some, None, length, take, eqb, leb}
 use Rattle.wire.specs.Wire.{pick, both, same}
 use Rattle.script.specs.Number.{number_of}
 use Rattle.script.specs.Hex.{pairs, decoded_of}
-use Rattle.script.specs.declared.hex.Decoded.{Decoded}
-use Rattle.script.specs.declared.number.Number.{Number}
-use Rattle.script.specs.declared.number.Number.TheVariants.{Value, Bad}
 use Rattle.command.specs.Args.{line_words, word_of}
 use Rattle.offering.specs.declared.Asked.{Asked}
 
@@ -36,20 +33,20 @@ is_offering name = pick (same name offer_name) true (same name held_name)
 -- ---- `offer N HEX`, `offer N HEX LENT` and `offer N HEX LENT HELD`
 
 -- "LENT and HELD are other counts of bytes lent of the store and of the second slice (over their sizes: `bad`)"
-abbrev pub at_most : ℕ → Number → Number
-at_most most (Value n) = pick (leb n most) (Value n) Bad
-at_most most Bad = Bad
+abbrev pub at_most : ℕ → Option ℕ → Option ℕ
+at_most most (Some n) = pick (leb n most) (Some n) None
+at_most most None = None
 
 -- the count that word number i is, at most so many; a line that ends before it lends the usual count
-unfoldable pub count_at : ℕ → ℕ → ℕ → List (List ℕ) → Number
-count_at usual most i ws = pick (leb (length ws) i) (Value usual) (at_most most (number_of (word_of ws i)))
+unfoldable pub count_at : ℕ → ℕ → ℕ → List (List ℕ) → Option ℕ
+count_at usual most i ws = pick (leb (length ws) i) (Some usual) (at_most most (number_of (word_of ws i)))
 
-abbrev pub offer_for : List ℕ → Number → Number → Number → Decoded → Offering
-offer_for hex (Value n) (Value lent) (Value held) (Decoded.Bytes k) = offer n (pairs hex) lent held
-offer_for hex (Value n) (Value lent) (Value held) Decoded.Bad = bad
-offer_for hex (Value n) (Value lent) Bad d = bad
-offer_for hex (Value n) Bad h d = bad
-offer_for hex Bad l h d = bad
+abbrev pub offer_for : List ℕ → Option ℕ → Option ℕ → Option ℕ → Option ℕ → Offering
+offer_for hex (Some n) (Some lent) (Some held) (Some k) = offer n (pairs hex) lent held
+offer_for hex (Some n) (Some lent) (Some held) None = bad
+offer_for hex (Some n) (Some lent) None d = bad
+offer_for hex (Some n) None h d = bad
+offer_for hex None l h d = bad
 
 -- three to five words. A line that does not say lends `kept` bytes of the store, whose size is `size`, and all of the second slice, whose size
 -- is `rooms`; there is room for so many bytes of HEX
@@ -61,9 +58,9 @@ ask_offer kept size rooms room ws =
 
 -- ---- `held N`: "N over 15: `bad`"
 
-abbrev pub held_for : Number → Offering
-held_for (Value n) = pick (leb n 15) (holds n) bad
-held_for Bad = bad
+abbrev pub held_for : Option ℕ → Offering
+held_for (Some n) = pick (leb n 15) (holds n) bad
+held_for None = bad
 
 unfoldable pub ask_held : List (List ℕ) → Offering
 ask_held ws = pick (eqb (length ws) 2) (held_for (number_of (word_of ws 1))) bad
@@ -78,10 +75,10 @@ offering_of kept size rooms room line =
 
 -- ---- what `ask` answers of it
 
-abbrev pub asked_of : Offering → Asked
-asked_of (offer n bytes lent held) = Asked.Offer n (length bytes) lent held
-asked_of (holds n) = Asked.Held n
-asked_of bad = Asked.Bad
+abbrev pub asked_of : Offering → Option Asked
+asked_of (offer n bytes lent held) = Some (Asked.Offer n (length bytes) lent held)
+asked_of (holds n) = Some (Asked.Held n)
+asked_of bad = None
 
 -- the bytes that are offered, and how many
 abbrev pub bytes_of : Offering → List ℕ
@@ -89,13 +86,13 @@ bytes_of (offer n bytes lent held) = bytes
 bytes_of (holds n) = []
 bytes_of bad = []
 
-abbrev pub size_of : Asked → ℕ
-size_of (Asked.Offer n size lent held) = size
-size_of (Asked.Held n) = 0
-size_of Asked.Bad = 0
+abbrev pub size_of : Option Asked → ℕ
+size_of (Some (Asked.Offer n size lent held)) = size
+size_of (Some (Asked.Held n)) = 0
+size_of None = 0
 
 -- r says what is asked; the bytes that are offered stand in front of the buffer
-pub record Says (q : Offering) (r : Asked) (buffer : List ℕ) : Type 0 where
+pub record Says (q : Offering) (r : Option Asked) (buffer : List ℕ) : Type 0 where
   pub asked : r ≡ asked_of q
   pub bytes : take (size_of r) buffer ≡ bytes_of q
   pub within : size_of r ≤ length buffer

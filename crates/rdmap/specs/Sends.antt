@@ -7,7 +7,8 @@ use Rattle.memory.specs.declared.buffer.Buffers.{Buffers}
 use Rattle.ddp.specs.Untagged.{next_msn}
 use Rattle.ddp.specs.declared.untagged.Queue.{Queue}
 use Rattle.rdmap.specs.declared.sends.Sends.{Sends}
-use Rattle.rdmap.specs.declared.sends.SendsPosted.{SendsPosted}
+use Rattle.std.specs.Prelude.{Result, ⊤}
+use Rattle.wire.specs.declared.refusal.LocalRefusal.{LocalRefusal}
 
 abbrev pub no_buffers : Buffers
 no_buffers = record { count = 0; entries = replicate 8 no_buffer }
@@ -21,11 +22,8 @@ abbrev pub current_buffer : Sends → Buffer
 current_buffer q = get_or q.buffers.entries 0 no_buffer
 
 -- "post adds a buffer at the end": 9, then 10
-abbrev pub posted_sends : Sends → Part → ℕ → ℕ → SendsPosted
-posted_sends q part start len = record {
-  outcome = (posted q.buffers part start len).outcome;
-  sends = record { msn = q.msn; opcode = q.opcode; taken = q.taken; buffers = (posted q.buffers part start len).buffers };
-}
+abbrev pub posted_sends : Sends → Part → ℕ → ℕ → (Result ⊤ LocalRefusal × Sends)
+posted_sends q part start len = ((posted q.buffers part start len).0, record { msn = q.msn; opcode = q.opcode; taken = q.taken; buffers = (posted q.buffers part start len).1 })
 
 -- a Send goes on: "opcode and bytes taken of a Send under way"
 abbrev pub sending_sends : Sends → ℕ → ℕ → Sends

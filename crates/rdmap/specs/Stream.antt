@@ -1,8 +1,7 @@
 -- A stream's record, in groups, and what the calls on it do. Each definition changes one group and names the others whole.
-use Rattle.std.specs.Prelude.{ℕ, Bool, [], eqb}
+use Rattle.std.specs.Prelude.{ℕ, Bool, [], eqb, Err, Ok, Result, ⊤}
 use Rattle.wire.specs.Wire.{pick}
 use Rattle.memory.specs.declared.part.Part.{Part}
-use Rattle.memory.specs.declared.part.Outcome.TheVariants.{Done, Refused}
 use Rattle.ddp.specs.declared.refusal.Refusal.{Refusal}
 use Rattle.rdmap.specs.Phase.{phase_of, ended_phase, is_closed, readiness}
 use Rattle.rdmap.specs.Framing.{no_framing, new_framing, framing_holding}
@@ -11,20 +10,15 @@ use Rattle.rdmap.specs.Read.{empty_reads, first_read, queued_reads, popped_reads
 use Rattle.rdmap.specs.Terminates.{empty_terminates, risen_terminates}
 use Rattle.rdmap.specs.declared.framing.Framing.{Framing}
 use Rattle.rdmap.specs.declared.phase.Phase.{Phase}
-use Rattle.rdmap.specs.declared.phase.Readiness.{Readiness}
-use Rattle.rdmap.specs.declared.phase.Readiness.TheVariants.{Ready, NotReady}
 use Rattle.rdmap.specs.declared.read.ReadRequest.{ReadRequest}
 use Rattle.rdmap.specs.declared.read.Reads.{Reads}
 use Rattle.rdmap.specs.declared.sends.Sends.{Sends}
-use Rattle.rdmap.specs.declared.sends.SendsPosted.{SendsPosted}
 use Rattle.rdmap.specs.declared.stream.Stream.{Stream}
-use Rattle.rdmap.specs.declared.stream.StreamDone.{StreamDone}
-use Rattle.rdmap.specs.declared.stream.CloseAnswer.TheVariants.{Closed as CountedOut, Refused as NotClosed}
-use Rattle.rdmap.specs.declared.stream.StreamClosed.{StreamClosed}
-use Rattle.rdmap.specs.declared.stream.TakeAnswer.TheVariants.{Read, Refused as NotTaken}
-use Rattle.rdmap.specs.declared.stream.StreamTaken.{StreamTaken}
-use Rattle.rdmap.specs.declared.stream.StateAnswer.{StateAnswer}
-use Rattle.rdmap.specs.declared.stream.StateAnswer.TheVariants.{Closed, Open, Ended, Terminated}
+use Rattle.rdmap.specs.declared.stream.State.{State}
+use Rattle.rdmap.specs.declared.stream.State.TheVariants.{Closed as StateClosed, Ended as StateEnded, Open as StateOpen, Terminated as StateTerminated}
+use Rattle.wire.specs.declared.refusal.LocalRefusal.{LocalRefusal}
+use Rattle.wire.specs.declared.refusal.LocalRefusal.TheVariants.{AlreadyOpen, NoReadWaits, NotOpen}
+use Rattle.rdmap.specs.declared.stream.Left.{Left}
 
 -- past the last stream, of which nothing is asked: as an array's default, its own arrays are empty
 abbrev pub no_stream : Stream
@@ -65,50 +59,50 @@ holding s n = with_framing s (framing_holding s.framing n)
 -- ---- calls
 
 -- opening: 4 already open
-unfoldable pub opened : Stream → Bool → StreamDone
+unfoldable pub opened : Stream → Bool → (Result ⊤ LocalRefusal × Stream)
 opened s crc =
-    pick (is_closed s.phase) (record { outcome = Done; stream = opened_stream crc })
-    (record { outcome = Refused 4; stream = s })
+    pick (is_closed s.phase) (Ok tt, opened_stream crc)
+    (Err AlreadyOpen, s)
 
 -- "Close gives the numbers of unfinished buffers and of untaken reads, and empties both"; 3 stream not open
-unfoldable pub closed : Stream → StreamClosed
+unfoldable pub closed : Stream → (Result Left LocalRefusal × Stream)
 closed s =
-    pick (is_closed s.phase) (record { answer = NotClosed 3; stream = s })
-    (record { answer = CountedOut s.sends.buffers.count s.reads.count; stream = closed_stream })
+    pick (is_closed s.phase) (Err NotOpen, s)
+    (Ok (record { buffers = s.sends.buffers.count; reads = s.reads.count }), closed_stream)
 
 -- posting: 3, 5, and then 9 and 10
-abbrev pub posted_with : Stream → SendsPosted → StreamDone
-posted_with s p = record { outcome = p.outcome; stream = with_sends s p.sends }
+abbrev pub posted_with : Stream → (Result ⊤ LocalRefusal × Sends) → (Result ⊤ LocalRefusal × Stream)
+posted_with s p = (p.0, with_sends s p.1)
 
-abbrev pub posted_when : Stream → Part → ℕ → ℕ → Readiness → StreamDone
-posted_when s part start len Ready = posted_with s (posted_sends s.sends part start len)
-posted_when s part start len (NotReady k) = record { outcome = Refused k; stream = s }
+abbrev pub posted_when : Stream → Part → ℕ → ℕ → Result ⊤ LocalRefusal → (Result ⊤ LocalRefusal × Stream)
+posted_when s part start len (Ok tt) = posted_with s (posted_sends s.sends part start len)
+posted_when s part start len (Err k) = (Err k, s)
 
-unfoldable pub posted_on : Stream → Part → ℕ → ℕ → StreamDone
+unfoldable pub posted_on : Stream → Part → ℕ → ℕ → (Result ⊤ LocalRefusal × Stream)
 posted_on s part start len = posted_when s part start len (readiness s.phase)
 
 -- taking a read: 3, 5, 11 no read waits; "gives the oldest"
-abbrev pub taken_when : Stream → Readiness → StreamTaken
-taken_when s Ready =
-    pick (eqb s.reads.count 0) (record { answer = NotTaken 11; stream = s })
-    (record { answer = Read (first_read s.reads); stream = with_reads s (popped_reads s.reads) })
-taken_when s (NotReady k) = record { answer = NotTaken k; stream = s }
+abbrev pub taken_when : Stream → Result ⊤ LocalRefusal → (Result ReadRequest LocalRefusal × Stream)
+taken_when s (Ok tt) =
+    pick (eqb s.reads.count 0) (Err NoReadWaits, s)
+    (Ok (first_read s.reads), with_reads s (popped_reads s.reads))
+taken_when s (Err k) = (Err k, s)
 
-unfoldable pub taken_from : Stream → StreamTaken
+unfoldable pub taken_from : Stream → (Result ReadRequest LocalRefusal × Stream)
 taken_from s = taken_when s (readiness s.phase)
 
 -- ---- a question, which changes nothing
 
 -- the state of a stream in a phase, with what waits on it: buffers that are not finished, the one in fill included, and reads that
 -- are not taken, as close counts them. Nothing waits on a closed stream
-unfoldable pub state_of : Phase → ℕ → ℕ → StateAnswer
+unfoldable pub state_of : Phase → ℕ → ℕ → State
 state_of p buffers reads =
-    pick (eqb p.state 0) Closed
-    (pick (eqb p.state 1) (Open buffers reads)
-    (pick (eqb p.state 2) (Ended p.refusal buffers reads)
-    (Terminated buffers reads)))
+    pick (eqb p.state 0) StateClosed
+    (pick (eqb p.state 1) (StateOpen buffers reads)
+    (pick (eqb p.state 2) (StateEnded p.refusal buffers reads)
+    (StateTerminated buffers reads)))
 
-abbrev pub state_in : Stream → StateAnswer
+abbrev pub state_in : Stream → State
 state_in s = state_of s.phase s.sends.buffers.count s.reads.count
 
 -- ---- what a segment that was judged makes of it

@@ -3,22 +3,17 @@ ghost use Rattle.std.specs.Prelude.{◌≡◌};
 ghost use Rattle.rdmap.specs.Phase.{is_closed, readiness, phase_of, ended_phase};
 
 use ddp::refusal::Refusal;
+use wire::refusal::LocalRefusal;
 
 // Where a stream stands: 0 closed; 1 open; 2 ended by a refusal of the peer's bytes, which stands
 // beside it; 3 ended by the peer's Terminate. One that is ended is still open until it is closed. The
-// refusal is zeros but in 2. Numbers and no enum, since a device that a C program holds may have none.
+// refusal is zeros but in 2.
+// Kept: numbers and no enum, since a device that a C program holds may have any of them (`phase_in` of `block`).
 #[repr(C)]
 #[derive(Clone, Copy)]
 pub struct Phase {
     pub state: u8,
     pub refusal: Refusal,
-}
-
-// Whether a stream can be worked on, or the refusal's number.
-#[derive(Drop)]
-pub enum Readiness {
-    Ready,
-    NotReady(u8),
 }
 
 const NO_REFUSAL: Refusal = Refusal {
@@ -53,15 +48,14 @@ impl Phase {
         self.state == 0
     }
 
-    // Whether the stream is open and not ended.
-    pub fn ready(self) -> Readiness
+    // Whether the stream is open and not ended, and so can be worked on.
+    pub fn ready(self) -> Result<(), LocalRefusal>
         ensures { result ≡ readiness self }
     {
-        let state = self.state;
-        match state {
-            0 => Readiness::NotReady(3),
-            1 => Readiness::Ready,
-            _ => Readiness::NotReady(5),
+        match self.state {
+            0 => Err(LocalRefusal::NotOpen),
+            1 => Ok(()),
+            _ => Err(LocalRefusal::StreamEnded),
         }
     }
 }

@@ -1,7 +1,6 @@
 // Queue 1: the peer's Read Requests. Up to eight wait on a stream, first come first taken.
 ghost use Rattle.std.specs.Prelude.{◌≡◌, ◌≤◌, length};
 ghost use Rattle.rdmap.specs.Read.{
-  no_read,
   request_at,
   empty_reads,
   first_read,
@@ -11,6 +10,7 @@ ghost use Rattle.rdmap.specs.Read.{
 };
 
 use ddp::untagged::{Queue, next_msn};
+use memory::buffer::moved_up;
 use wire::number::{get_be32, get_be64};
 
 // One Read Request (RFC 5040, section 4.4): where the peer wants the bytes, how many, and from where.
@@ -25,6 +25,8 @@ pub struct ReadRequest {
 }
 
 // The next MSN, and the requests that wait, in the order in which they came; zeros past the count.
+// Kept: a count beside entries, and no `ArrayVec`. The memory is fixed (repr(C)), and `queued_reads` and `popped_reads`
+// say what every entry is, those past the count too.
 #[repr(C)]
 #[derive(Clone, Copy)]
 pub struct Reads {
@@ -48,27 +50,22 @@ pub(crate) fn request_of(payload: &[u8]) -> ReadRequest
 }
 
 // No request.
-fn no_read() -> ReadRequest
-    ensures { result ≡ no_read }
-{
-    ReadRequest {
-        sink_stag: 0,
-        sink_to: 0,
-        size: 0,
-        source_stag: 0,
-        source_to: 0,
-    }
-}
+const NO_READ: ReadRequest = ReadRequest {
+    sink_stag: 0,
+    sink_to: 0,
+    size: 0,
+    source_stag: 0,
+    source_to: 0,
+};
 
 // No request waits, with the next MSN.
 pub fn empty_reads(msn: u32) -> Reads
     ensures { result ≡ empty_reads msn }
 {
-    let read = no_read();
     Reads {
         msn,
         count: 0,
-        entries: [read; 8],
+        entries: [NO_READ; 8],
     }
 }
 
@@ -77,40 +74,34 @@ impl Reads {
     pub fn first(self) -> ReadRequest
         ensures { result ≡ first_read self }
     {
-        let entries = self.entries;
-        entries[0]
+        self.entries[0]
     }
 
     // One more at the end, and the next has the next MSN; full, the queue stays as it is.
-    pub fn queued(self, read: ReadRequest) -> Reads
+    #[tactic(auto, unfolding(crate::specs::Read::queued_reads))]
+    pub fn queued(mut self, read: ReadRequest) -> Reads
         ensures { result ≡ queued_reads self read }
     {
-        let count = self.count;
-        if count < 8 {
-            let mut next = self;
-            next.entries[count as usize] = read;
-            next.count = count + 1;
-            next.msn = next_msn(self.msn);
-            return next;
+        if self.count < 8 {
+            self.entries[self.count as usize] = read;
+            self.count += 1;
+            self.msn = next_msn(self.msn);
         }
         self
     }
 
     // The queue without its head: the others move up.
+    #[tactic(auto, unfolding(crate::specs::Read::popped_reads))]
     pub fn popped(self) -> Reads
         ensures { result ≡ popped_reads self }
     {
-        let count = self.count;
-        if count == 0 {
+        if self.count == 0 {
             return self;
         }
-        let e = self.entries;
-        let none = no_read();
-        let entries = [e[1], e[2], e[3], e[4], e[5], e[6], e[7], none];
         Reads {
-            msn: self.msn,
-            count: count - 1,
-            entries,
+            count: self.count - 1,
+            entries: moved_up(self.entries, NO_READ),
+            ..self
         }
     }
 

@@ -11,7 +11,8 @@ ghost use Rattle.rdmap.specs.Sends.{
 
 use ddp::untagged::{Queue, next_msn};
 use memory::buffer::{Buffer, Buffers};
-use memory::part::{Outcome, Part};
+use memory::part::Part;
+use wire::refusal::LocalRefusal;
 
 // The next MSN, the opcode of a Send under way (0: none), how many of its bytes are taken, and the
 // buffers that wait.
@@ -22,13 +23,6 @@ pub struct Sends {
     pub opcode: u8,
     pub taken: u32,
     pub buffers: Buffers,
-}
-
-// What posting answers, and the queue after it.
-#[derive(Drop)]
-pub struct SendsPosted {
-    pub outcome: Outcome,
-    pub sends: Sends,
 }
 
 // No Send under way and no buffer, with the next MSN.
@@ -52,45 +46,37 @@ impl Sends {
     pub fn current(self) -> Buffer
         ensures { result ≡ current_buffer self }
     {
-        let buffers = self.buffers;
-        let entries = buffers.entries;
-        entries[0]
+        self.buffers.entries[0]
     }
 
-    // Posts a buffer in the domain's part.
-    pub fn post(self, part: Part, start: u64, len: u64) -> SendsPosted
+    // Posts a buffer in the domain's part: what posting answers, and the queue after it.
+    pub fn post(self, part: Part, start: u64, len: u64) -> (Result<(), LocalRefusal>, Sends)
         ensures { result ≡ posted_sends self part start len }
     {
-        let buffers = self.buffers;
-        let posted = buffers.post(part, start, len);
-        let outcome = posted.outcome;
-        let after = posted.buffers;
-        let mut sends = self;
-        sends.buffers = after;
-        SendsPosted { outcome, sends }
+        let (outcome, buffers) = self.buffers.post(part, start, len);
+        (outcome, Sends { buffers, ..self })
     }
 
     // A Send goes on: its opcode, and how many of its bytes are taken.
     pub fn sending(self, opcode: u8, taken: u32) -> Sends
         ensures { result ≡ sending_sends self opcode taken }
     {
-        let mut sends = self;
-        sends.opcode = opcode;
-        sends.taken = taken;
-        sends
+        Sends {
+            opcode,
+            taken,
+            ..self
+        }
     }
 
     // A Send is complete: its buffer is gone, and the next one has the next MSN.
     pub fn sent(self) -> Sends
         ensures { result ≡ sent_sends self }
     {
-        let buffers = self.buffers;
-        let msn = next_msn(self.msn);
         Sends {
-            msn,
+            msn: next_msn(self.msn),
             opcode: 0,
             taken: 0,
-            buffers: buffers.popped(),
+            buffers: self.buffers.popped(),
         }
     }
 
@@ -98,12 +84,10 @@ impl Sends {
     pub fn queue(self) -> Queue
         ensures { result ≡ send_queue self }
     {
-        let b = self.current();
-        let buffers = self.buffers;
         Queue {
             msn: self.msn,
-            room: 0 < buffers.count,
-            limit: b.len,
+            room: 0 < self.buffers.count,
+            limit: self.current().len,
             taken: self.taken,
         }
     }

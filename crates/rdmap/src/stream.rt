@@ -1,13 +1,10 @@
-// A stream's record: handed in by value, and the changed record handed back. It is in groups, each of
-// which has its own module; a method here changes one group and names the others whole. A closed
+// A stream's record: handed in by value, and the changed record handed back, behind what the call answers.
+// It is in groups, each of which has its own module; a method here changes one group and names the others whole. A closed
 // stream is all zeros, and the entries past a count are zeros, so that equal meaning is equal value.
 ghost use Rattle.std.specs.Prelude.{◌≡◌};
 ghost use Rattle.rdmap.specs.Stream.{
   closed_stream,
   opened_stream,
-  in_phase,
-  with_sends,
-  with_reads,
   opened,
   closed,
   posted_on,
@@ -23,15 +20,17 @@ ghost use Rattle.rdmap.specs.Stream.{
 ghost use Rattle.rdmap.specs.Message.{queue_of};
 
 use crate::framing::{Framing, new_framing, no_framing};
-use crate::phase::{Phase, Readiness, ended_by, phase_of};
+use crate::phase::{Phase, ended_by, phase_of};
 use crate::read::{ReadRequest, Reads, empty_reads};
 use crate::sends::{Sends, empty_sends};
 use crate::terminates::{Terminates, empty_terminates};
 use ddp::refusal::Refusal;
 use ddp::untagged::Queue;
-use memory::part::{Outcome, Part};
+use memory::part::Part;
+use wire::refusal::LocalRefusal;
 
 // Where it stands, how its bytes are read as frames, and what its three queues keep.
+// Kept: the methods take the record by value and hand back the changed one, as the devices and slots above lend them.
 #[repr(C)]
 #[derive(Clone, Copy)]
 pub struct Stream {
@@ -42,44 +41,18 @@ pub struct Stream {
     pub terminates: Terminates,
 }
 
-// What opening or posting answers, and the stream after it.
+// What a stream leaves that is closed: how many buffers were not finished and how many reads not taken.
 #[derive(Drop)]
-pub struct StreamDone {
-    pub outcome: Outcome,
-    pub stream: Stream,
+pub struct Left {
+    pub buffers: u32,
+    pub reads: u32,
 }
 
-// What closing answers: how many buffers were not finished and how many reads not taken.
-#[derive(Drop)]
-pub enum CloseAnswer {
-    Closed { buffers: u32, reads: u32 },
-    Refused(u8),
-}
-
-#[derive(Drop)]
-pub struct StreamClosed {
-    pub answer: CloseAnswer,
-    pub stream: Stream,
-}
-
-// What taking a read answers.
-#[derive(Drop)]
-pub enum TakeAnswer {
-    Read(ReadRequest),
-    Refused(u8),
-}
-
-#[derive(Drop)]
-pub struct StreamTaken {
-    pub answer: TakeAnswer,
-    pub stream: Stream,
-}
-
-// What asking for a stream's state answers: closed; open; ended by a refusal of the peer's bytes; ended by
+// A stream's state: closed; open; ended by a refusal of the peer's bytes; ended by
 // the peer's Terminate. One that is not closed comes with how many buffers are not finished and how many
 // reads not taken.
 #[derive(Drop)]
-pub enum StateAnswer {
+pub enum State {
     Closed,
     Open {
         buffers: u32,
@@ -94,7 +67,6 @@ pub enum StateAnswer {
         buffers: u32,
         reads: u32,
     },
-    Refused(u8),
 }
 
 // A closed stream.
@@ -124,207 +96,150 @@ pub fn opened_stream(crc: bool) -> Stream
 }
 
 // The state of a stream in this phase, on which so many buffers and reads wait.
-pub fn state_of(phase: Phase, buffers: u32, reads: u32) -> StateAnswer
+#[tactic(auto, unfolding(crate::specs::Stream::state_of))]
+pub fn state_of(phase: Phase, buffers: u32, reads: u32) -> State
     ensures { result ≡ state_of phase buffers reads }
 {
-    let state = phase.state;
-    let refusal = phase.refusal;
-    match state {
-        0 => StateAnswer::Closed,
-        1 => StateAnswer::Open { buffers, reads },
-        2 => StateAnswer::Ended {
-            refusal,
+    match phase.state {
+        0 => State::Closed,
+        1 => State::Open { buffers, reads },
+        2 => State::Ended {
+            refusal: phase.refusal,
             buffers,
             reads,
         },
-        _ => StateAnswer::Terminated { buffers, reads },
+        _ => State::Terminated { buffers, reads },
     }
 }
 
 impl Stream {
-    // The stream in another phase.
-    fn in_phase(self, phase: Phase) -> Stream
-        ensures { result ≡ in_phase self phase }
-    {
-        let mut stream = self;
-        stream.phase = phase;
-        stream
-    }
-
-    // The stream with queue 0 exchanged.
-    fn with_sends(self, sends: Sends) -> Stream
-        ensures { result ≡ with_sends self sends }
-    {
-        let mut stream = self;
-        stream.sends = sends;
-        stream
-    }
-
-    // The stream with queue 1 exchanged.
-    fn with_reads(self, reads: Reads) -> Stream
-        ensures { result ≡ with_reads self reads }
-    {
-        let mut stream = self;
-        stream.reads = reads;
-        stream
-    }
-
     // Opens a closed stream, with the CRC on or off.
-    pub fn open(self, crc: bool) -> StreamDone
+    #[tactic(auto, unfolding(crate::specs::Stream::opened))]
+    pub fn open(self, crc: bool) -> (Result<(), LocalRefusal>, Stream)
         ensures { result ≡ opened self crc }
     {
-        let phase = self.phase;
-        if phase.is_closed() {
-            return StreamDone {
-                outcome: Outcome::Done,
-                stream: opened_stream(crc),
-            };
+        if !self.phase.is_closed() {
+            return (Err(LocalRefusal::AlreadyOpen), self);
         }
-        StreamDone {
-            outcome: Outcome::Refused(4),
-            stream: self,
-        }
+        (Ok(()), opened_stream(crc))
     }
 
     // Closes an open stream, ended or not, and counts what it leaves.
-    pub fn close(self) -> StreamClosed
+    #[tactic(auto, unfolding(crate::specs::Stream::closed))]
+    pub fn close(self) -> (Result<Left, LocalRefusal>, Stream)
         ensures { result ≡ closed self }
     {
-        let phase = self.phase;
-        if phase.is_closed() {
-            return StreamClosed {
-                answer: CloseAnswer::Refused(3),
-                stream: self,
-            };
+        if self.phase.is_closed() {
+            return (Err(LocalRefusal::NotOpen), self);
         }
-        let sends = self.sends;
-        let buffers = sends.buffers;
-        let reads = self.reads;
-        StreamClosed {
-            answer: CloseAnswer::Closed {
-                buffers: buffers.count,
-                reads: reads.count,
-            },
-            stream: closed_stream(),
-        }
+        (
+            Ok(Left {
+                buffers: self.sends.buffers.count,
+                reads: self.reads.count,
+            }),
+            closed_stream(),
+        )
     }
 
     // Posts a buffer in the domain's part.
-    pub fn post(self, part: Part, start: u64, len: u64) -> StreamDone
+    #[tactic(auto, unfolding(crate::specs::Stream::posted_on))]
+    pub fn post(self, part: Part, start: u64, len: u64) -> (Result<(), LocalRefusal>, Stream)
         ensures { result ≡ posted_on self part start len }
     {
-        let phase = self.phase;
-        match phase.ready() {
-            Readiness::Ready => {}
-            Readiness::NotReady(number) => {
-                return StreamDone {
-                    outcome: Outcome::Refused(number),
-                    stream: self,
-                };
-            }
+        if let Err(refusal) = self.phase.ready() {
+            return (Err(refusal), self);
         }
-        let sends = self.sends;
-        let posted = sends.post(part, start, len);
-        let outcome = posted.outcome;
-        let after = posted.sends;
-        StreamDone {
-            outcome,
-            stream: self.with_sends(after),
-        }
+        let (outcome, sends) = self.sends.post(part, start, len);
+        (outcome, Stream { sends, ..self })
     }
 
     // Takes the read that came first of those that wait.
-    pub fn take(self) -> StreamTaken
+    #[tactic(auto, unfolding(crate::specs::Stream::taken_from))]
+    pub fn take(self) -> (Result<ReadRequest, LocalRefusal>, Stream)
         ensures { result ≡ taken_from self }
     {
-        let phase = self.phase;
-        match phase.ready() {
-            Readiness::Ready => {}
-            Readiness::NotReady(number) => {
-                return StreamTaken {
-                    answer: TakeAnswer::Refused(number),
-                    stream: self,
-                };
-            }
+        if let Err(not_ready) = self.phase.ready() {
+            return (Err(not_ready), self);
         }
-        let reads = self.reads;
-        if reads.count == 0 {
-            return StreamTaken {
-                answer: TakeAnswer::Refused(11),
-                stream: self,
-            };
+        if self.reads.count == 0 {
+            return (Err(LocalRefusal::NoReadWaits), self);
         }
-        let first = reads.first();
-        StreamTaken {
-            answer: TakeAnswer::Read(first),
-            stream: self.with_reads(reads.popped()),
-        }
+        (
+            Ok(self.reads.first()),
+            Stream {
+                reads: self.reads.popped(),
+                ..self
+            },
+        )
     }
 
     // The stream's state, with what waits on it.
-    pub fn state(self) -> StateAnswer
+    pub fn state(self) -> State
         ensures { result ≡ state_in self }
     {
-        let sends = self.sends;
-        let buffers = sends.buffers;
-        let reads = self.reads;
-        state_of(self.phase, buffers.count, reads.count)
+        state_of(self.phase, self.sends.buffers.count, self.reads.count)
     }
 
     // What the queue qn expects.
+    #[tactic(auto, unfolding(crate::specs::Message::queue_of))]
     pub fn queue_of(self, qn: u32) -> Queue
         ensures { result ≡ queue_of self qn }
     {
-        if qn == 0 {
-            let sends = self.sends;
-            return sends.queue();
+        match qn {
+            0 => self.sends.queue(),
+            1 => self.reads.queue(),
+            _ => self.terminates.queue(),
         }
-        if qn == 1 {
-            let reads = self.reads;
-            return reads.queue();
-        }
-        let terminates = self.terminates;
-        terminates.queue()
     }
 
     // Ends the stream by a refusal of the peer's bytes.
     pub fn end(self, refusal: Refusal) -> Stream
         ensures { result ≡ ended_by self refusal }
     {
-        self.in_phase(ended_by(refusal))
+        Stream {
+            phase: ended_by(refusal),
+            ..self
+        }
     }
 
     // Ends the stream by the peer's Terminate.
     pub fn terminated(self) -> Stream
         ensures { result ≡ terminated_by self }
     {
-        let terminates = self.terminates;
-        let mut stream = self.in_phase(phase_of(3));
-        stream.terminates = terminates.risen();
-        stream
+        Stream {
+            phase: phase_of(3),
+            terminates: self.terminates.risen(),
+            ..self
+        }
     }
 
     // A Send goes on: its opcode, and how many of its bytes are taken.
     pub fn sending(self, opcode: u8, taken: u32) -> Stream
         ensures { result ≡ sending_on self opcode taken }
     {
-        let sends = self.sends;
-        self.with_sends(sends.sending(opcode, taken))
+        Stream {
+            sends: self.sends.sending(opcode, taken),
+            ..self
+        }
     }
 
     // A Send is complete.
     pub fn sent(self) -> Stream
         ensures { result ≡ sent_on self }
     {
-        let sends = self.sends;
-        self.with_sends(sends.sent())
+        Stream {
+            sends: self.sends.sent(),
+            ..self
+        }
     }
 
     // A Read Request is queued.
     pub fn queued(self, read: ReadRequest) -> Stream
         ensures { result ≡ queued_on self read }
     {
-        let reads = self.reads;
-        self.with_reads(reads.queued(read))
+        Stream {
+            reads: self.reads.queued(read),
+            ..self
+        }
     }
 }

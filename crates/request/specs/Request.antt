@@ -1,19 +1,14 @@
 -- What a line of a script asks, as the script format's table of commands has it, over the words of the line.
 -- Assumes nothing.
-use Rattle.std.specs.Prelude.{ℕ, ◌+◌, Bool, true, false, ◌≡◌, List, [], ◌∷◌, length, get_or, take, replicate, eqb, leb}
+use Rattle.std.specs.Prelude.{ℕ, ◌+◌, Bool, true, ◌≡◌, List, [], ◌∷◌, Option, Some, None, length, get_or, take, eqb, leb}
 use Rattle.wire.specs.Wire.{pick, same, put}
 use Rattle.script.specs.Number.{number_of}
 use Rattle.script.specs.Hex.{pairs, decoded_of}
-use Rattle.script.specs.declared.hex.Decoded.{Decoded}
-use Rattle.script.specs.declared.number.Number.{Number}
-use Rattle.script.specs.declared.number.Number.TheVariants.{Value, Bad}
 use Rattle.command.specs.Args.{line_words, word_of, numbers_of}
 use Rattle.command.specs.Frames.{is_frame, switch_of}
-use Rattle.command.specs.declared.args.Flag.{Flag}
-use Rattle.command.specs.declared.args.Numbers.{Numbers}
 use Rattle.sums.specs.Sums.{is_sum}
 use Rattle.starting.specs.Starting.{is_start}
-use Rattle.request.specs.declared.Asked.{Asked}
+use Rattle.request.specs.declared.DeviceCall.{DeviceCall}
 use Rattle.request.specs.declared.shape.Shape.{Shape}
 
 -- what a line asks
@@ -90,20 +85,20 @@ fill_name = 102 ∷ 105 ∷ 108 ∷ 108 ∷ []
 
 -- ---- calls whose words are all numbers
 
-abbrev pub shape : ℕ → ℕ → Shape
-shape number words = record { number = number; words = words }
+abbrev pub shape : ℕ → ℕ → Option Shape
+shape number words = Some (record { number = number; words = words })
 
 -- a call on a domain's gauge
-unfoldable pub gauge_shape : List ℕ → Shape
+unfoldable pub gauge_shape : List ℕ → Option Shape
 gauge_shape name =
     -- `tick D`
     pick (same name tick_name) (shape 10 2)
     -- `reading D`
     (pick (same name reading_name) (shape 11 2)
-    (shape 0 0))
+    None)
 
--- the number of the call that a name stands for, and how many words its line has; no words where it stands for none
-unfoldable pub shape_of : List ℕ → Shape
+-- the number of the call that a name stands for, and how many words its line has, where it stands for one
+unfoldable pub shape_of : List ℕ → Option Shape
 shape_of name =
     -- `open LENGTH S0 E0 S1 E1 S2 E2 S3 E3`
     pick (same name open_name) (shape 0 10)
@@ -129,11 +124,16 @@ shape_of name =
 abbrev pub kept_after : ℕ → ℕ → List ℕ → ℕ
 kept_after kept number numbers = pick (eqb number 0) (get_or numbers 0 0) kept
 
-abbrev pub numbers_call : ℕ → ℕ → Numbers → Request
-numbers_call kept number n = pick n.ok (call number n.values [] 0 (kept_after kept number n.values)) text
+abbrev pub numbers_call : ℕ → ℕ → Option (List ℕ) → Request
+numbers_call kept number (Some n) = call number n [] 0 (kept_after kept number n)
+numbers_call kept number None = text
+
+abbrev pub shape_call : ℕ → Option Shape → List (List ℕ) → Request
+shape_call kept (Some s) ws = numbers_call kept s.number (numbers_of ws s.words)
+shape_call kept None ws = text
 
 unfoldable pub ask_numbers : ℕ → List (List ℕ) → Request
-ask_numbers kept ws = numbers_call kept (shape_of (word_of ws 0)).number (numbers_of ws (shape_of (word_of ws 0)).words)
+ask_numbers kept ws = shape_call kept (shape_of (word_of ws 0)) ws
 
 -- ---- `stream N on` and `stream N off`
 
@@ -141,28 +141,28 @@ ask_numbers kept ws = numbers_call kept (shape_of (word_of ws 0)).number (number
 abbrev pub nine : ℕ → ℕ → List ℕ
 nine a b = a ∷ b ∷ 0 ∷ 0 ∷ 0 ∷ 0 ∷ 0 ∷ 0 ∷ 0 ∷ []
 
-abbrev pub stream_call : ℕ → Number → Flag → Request
-stream_call kept (Value n) (Flag.Value crc) = call 1 (nine n (pick crc 1 0)) [] 0 kept
-stream_call kept (Value n) Flag.Bad = text
-stream_call kept Bad crc = text
+abbrev pub stream_call : ℕ → Option ℕ → Option Bool → Request
+stream_call kept (Some n) (Some crc) = call 1 (nine n (pick crc 1 0)) [] 0 kept
+stream_call kept (Some n) None = text
+stream_call kept None crc = text
 
 unfoldable pub ask_stream : ℕ → List (List ℕ) → Request
 ask_stream kept ws = pick (eqb (length ws) 3) (stream_call kept (number_of (word_of ws 1)) (switch_of (word_of ws 2))) text
 
 -- ---- `receive N HEX` and `receive N HEX LENT`: "another count of store bytes lent; over the store's size: `bad`"
 
-abbrev pub at_most : ℕ → Number → Number
-at_most size (Value n) = pick (leb n size) (Value n) Bad
-at_most size Bad = Bad
+abbrev pub at_most : ℕ → Option ℕ → Option ℕ
+at_most size (Some n) = pick (leb n size) (Some n) None
+at_most size None = None
 
-unfoldable pub lent_of : ℕ → ℕ → List (List ℕ) → Number
-lent_of kept size ws = pick (eqb (length ws) 3) (Value kept) (pick (eqb (length ws) 4) (at_most size (number_of (word_of ws 3))) Bad)
+unfoldable pub lent_of : ℕ → ℕ → List (List ℕ) → Option ℕ
+lent_of kept size ws = pick (eqb (length ws) 3) (Some kept) (pick (eqb (length ws) 4) (at_most size (number_of (word_of ws 3))) None)
 
-abbrev pub receive_call : ℕ → List ℕ → Number → Number → Decoded → Request
-receive_call kept hex (Value lent) (Value n) (Decoded.Bytes k) = call 9 (nine n 0) (pairs hex) lent kept
-receive_call kept hex (Value lent) (Value n) Decoded.Bad = text
-receive_call kept hex (Value lent) Bad d = text
-receive_call kept hex Bad n d = text
+abbrev pub receive_call : ℕ → List ℕ → Option ℕ → Option ℕ → Option ℕ → Request
+receive_call kept hex (Some lent) (Some n) (Some k) = call 9 (nine n 0) (pairs hex) lent kept
+receive_call kept hex (Some lent) (Some n) None = text
+receive_call kept hex (Some lent) None d = text
+receive_call kept hex None n d = text
 
 -- where there is room for so many bytes of HEX, over a store of some size
 unfoldable pub ask_receive : ℕ → ℕ → ℕ → List (List ℕ) → Request
@@ -170,10 +170,10 @@ ask_receive kept room size ws = receive_call kept (word_of ws 2) (lent_of kept s
 
 -- ---- `fill START HEX`: "puts bytes into the store; past its size: `bad`"
 
-abbrev pub filled : ℕ → List ℕ → Number → Decoded → Request
-filled size hex (Value start) (Decoded.Bytes k) = pick (leb (start + k) size) (fill start (pairs hex)) text
-filled size hex (Value start) Decoded.Bad = text
-filled size hex Bad d = text
+abbrev pub filled : ℕ → List ℕ → Option ℕ → Option ℕ → Request
+filled size hex (Some start) (Some k) = pick (leb (start + k) size) (fill start (pairs hex)) text
+filled size hex (Some start) None = text
+filled size hex None d = text
 
 unfoldable pub ask_fill : ℕ → ℕ → List (List ℕ) → Request
 ask_fill room size ws = pick (eqb (length ws) 3) (filled size (word_of ws 2) (number_of (word_of ws 1)) (decoded_of (word_of ws 2) room)) text
@@ -209,19 +209,20 @@ request_of kept room size line =
 
 -- ---- what `ask` answers of it
 
--- a line that is answered by a text of n bytes
-abbrev pub answered_by : ℕ → Asked
-answered_by n = record { call = false; count = n; number = 0; numbers = replicate 9 0; size = 0; lent = 0; kept = 0 }
-
 -- a call, with `size` bytes
-abbrev pub call_by : ℕ → List ℕ → ℕ → ℕ → ℕ → Asked
-call_by number numbers size lent kept =
-    record { call = true; count = 0; number = number; numbers = numbers; size = size; lent = lent; kept = kept }
+abbrev pub call_by : ℕ → List ℕ → ℕ → ℕ → ℕ → DeviceCall
+call_by number numbers size lent kept = record { number = number; numbers = numbers; size = size; lent = lent; kept = kept }
 
-abbrev pub asked_of : Request → ℕ → Asked
-asked_of (call number numbers input lent kept) n = call_by number numbers (length input) lent kept
-asked_of (fill start bytes) n = answered_by n
-asked_of text n = answered_by n
+-- what may be a call
+abbrev pub call_of : Request → Option DeviceCall
+call_of (call number numbers input lent kept) = Some (call_by number numbers (length input) lent kept)
+call_of (fill start bytes) = None
+call_of text = None
+
+-- how many bytes a call has
+abbrev pub call_size : Option DeviceCall → ℕ
+call_size (Some c) = c.size
+call_size None = 0
 
 -- the bytes of a call
 abbrev pub input_of : Request → List ℕ
@@ -235,13 +236,13 @@ store_after (call number numbers input lent kept) store = store
 store_after (fill start bytes) store = put store start bytes
 store_after text store = store
 
--- r says what is asked, but for the text, whose length it counts; a call's bytes stand in front of the buffer; and the store afterwards
-pub record Says (q : Request) (r : Asked) (buffer store after : List ℕ) : Type 0 where
-  pub asked : r ≡ asked_of q r.count
-  pub input : take r.size buffer ≡ input_of q
+-- r says what is asked: a call, or nothing where the line is answered by a text. The text alone is not said; a call's bytes stand in front of the buffer; and the store afterwards
+pub record Says (q : Request) (r : Option DeviceCall) (buffer store after : List ℕ) : Type 0 where
+  pub asked : r ≡ call_of q
+  pub input : take (call_size r) buffer ≡ input_of q
   pub rest : after ≡ store_after q store
 
 -- the same of what may be a call, where the store is not lent and no text is written
-pub record SaysCall (q : Request) (r : Asked) (buffer : List ℕ) : Type 0 where
-  pub asked : r ≡ asked_of q 0
-  pub input : take r.size buffer ≡ input_of q
+pub record SaysCall (q : Request) (r : Option DeviceCall) (buffer : List ℕ) : Type 0 where
+  pub asked : r ≡ call_of q
+  pub input : take (call_size r) buffer ≡ input_of q

@@ -1,95 +1,66 @@
 // Which call of the device a name stands for, where the words after it are all numbers.
 ghost use Rattle.std.specs.Prelude.{◌≡◌};
-ghost use Rattle.request.specs.Request.{gauge_shape, shape_of};
+ghost use Rattle.request.specs.Request.{shape, gauge_shape, shape_of};
 
-use wire::copy::same;
-
-// The number of a call, and how many words its line has; no words where the name is no call's.
+// The number of a call, and how many words its line has.
 #[derive(Drop)]
 pub struct Shape {
     pub number: u64,
     pub words: usize,
 }
 
+// A call of that number, whose line has so many words.
+fn call_shape(number: u64, words: usize) -> Option<Shape>
+    ensures { result ≡ shape number words }
+{
+    Some(Shape { number, words })
+}
+
 // The call of a name on a domain's gauge.
-fn gauge_shape(name: &[u8]) -> Shape
+#[tactic(auto, using(script::proofs::Same::equal_same), unfolding(crate::specs::Request::gauge_shape))]
+fn gauge_shape(name: &[u8]) -> Option<Shape>
     ensures { result ≡ gauge_shape name.now }
 {
-    if same(name, b"tick") {
-        return Shape {
-            number: 10,
-            words: 2,
-        };
+    if name == b"tick".as_slice() {
+        return call_shape(10, 2);
     }
-    if same(name, b"reading") {
-        return Shape {
-            number: 11,
-            words: 2,
-        };
+    if name == b"reading".as_slice() {
+        return call_shape(11, 2);
     }
-    Shape {
-        number: 0,
-        words: 0,
-    }
+    None
 }
 
 // The call of a name whose words are numbers alone.
-pub fn shape_of(name: &[u8]) -> Shape
+#[tactic(auto, using(script::proofs::Same::equal_same), unfolding(crate::specs::Request::shape_of))]
+pub fn shape_of(name: &[u8]) -> Option<Shape>
     ensures { result ≡ shape_of name.now }
 {
-    if same(name, b"open") {
-        return Shape {
-            number: 0,
-            words: 10,
-        };
+    if name == b"open".as_slice() {
+        return call_shape(0, 10);
     }
-    if same(name, b"close") {
-        return Shape {
-            number: 2,
-            words: 2,
-        };
+    if name == b"close".as_slice() {
+        return call_shape(2, 2);
     }
-    if same(name, b"register") {
-        return Shape {
-            number: 3,
-            words: 7,
-        };
+    if name == b"register".as_slice() {
+        return call_shape(3, 7);
     }
-    if same(name, b"drop") {
-        return Shape {
-            number: 4,
-            words: 2,
-        };
+    if name == b"drop".as_slice() {
+        return call_shape(4, 2);
     }
-    if same(name, b"post") {
-        return Shape {
-            number: 5,
-            words: 4,
-        };
+    if name == b"post".as_slice() {
+        return call_shape(5, 4);
     }
-    if same(name, b"take") {
-        return Shape {
-            number: 6,
-            words: 2,
-        };
+    if name == b"take".as_slice() {
+        return call_shape(6, 2);
     }
-    if same(name, b"live") {
-        return Shape {
-            number: 7,
-            words: 2,
-        };
+    if name == b"live".as_slice() {
+        return call_shape(7, 2);
     }
-    if same(name, b"free") {
-        return Shape {
-            number: 8,
-            words: 2,
-        };
+    if name == b"free".as_slice() {
+        return call_shape(8, 2);
     }
-    if same(name, b"state") {
-        return Shape {
-            number: 12,
-            words: 2,
-        };
+    if name == b"state".as_slice() {
+        return call_shape(12, 2);
     }
     gauge_shape(name)
 }

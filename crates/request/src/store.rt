@@ -1,35 +1,31 @@
 // The commands that show and set bytes of the store. Neither is a call of the device.
-ghost use Rattle.std.specs.Prelude.{◌≡◌, ◌+◌, ◌≤◌, leb, length};
+ghost use Rattle.std.specs.Prelude.{◌≡◌, ◌+◌, leb, length};
 ghost use Rattle.wire.specs.Wire.{pick, put};
-ghost use Rattle.command.specs.Args.{words_at};
+ghost use Rattle.command.specs.Args.{words_of};
 ghost use Rattle.request.specs.Request.{ask_fill, store_after};
 
-use command::answer::{bad, first, then_hex};
-use command::args::{Numbers, Words, hex_into, word};
-use script::number::{Number, read_number};
+use command::answer::{bad, then_hex};
+use command::args::Words;
+use script::hex::decode;
+use script::text::Text;
 
 // `bytes START LENGTH`: shows that many bytes from START on.
-pub fn bytes(n: Numbers, store: &[u8], text: &mut [u8]) -> usize
-    ensures { result ≤ length text.old }
-{
-    if n.ok {
-        let start = n.values[0] as usize;
-        let size = n.values[1] as usize;
-        if start <= store.len() {
-            if size <= store.len() - start {
-                let at = first(b"bytes", text);
-                let end = start + size;
-                return then_hex(&store[start..end], text, at);
-            }
+pub fn bytes<const N: usize>(numbers: Option<[u64; 9]>, store: &[u8], text: &mut Text<N>) {
+    if let Some(values) = numbers {
+        let start = values[0] as usize;
+        let size = values[1] as usize;
+        if start <= store.len() && size <= store.len() - start {
+            let end = start + size;
+            text.put(b"bytes");
+            return then_hex(&store[start..end], text);
         }
     }
-    bad(text)
+    bad(text);
 }
 
 // Puts bytes into the store from a place on, if they fit.
-fn put_bytes(bytes: &[u8], at: usize, store: &mut [u8], text: &mut [u8]) -> usize
-    ensures within { result ≤ length text.old }
-    ensures filled { store.new ≡ pick (leb (at + length bytes.now) (length store.old)) (put store.old at bytes.now) store.old }
+fn put_bytes<const N: usize>(bytes: &[u8], at: usize, store: &mut [u8], text: &mut Text<N>)
+    ensures { store.new ≡ pick (leb (at + length bytes.now) (length store.old)) (put store.old at bytes.now) store.old }
 {
     if store.len() < at {
         return bad(text);
@@ -38,24 +34,22 @@ fn put_bytes(bytes: &[u8], at: usize, store: &mut [u8], text: &mut [u8]) -> usiz
         return bad(text);
     }
     wire::copy::copy(store, at, bytes);
-    first(b"done", text)
+    text.put(b"done");
 }
 
 // `fill START HEX`: puts bytes into the store from START on.
-pub fn fill(line: &[u8], words: Words, bytes: &mut [u8], store: &mut [u8], text: &mut [u8]) -> usize
-    ensures within { result ≤ length text.old }
-    ensures filled { store.new ≡ store_after (ask_fill (length bytes.old) (length store.old) (words_at line.now words)) store.old }
+#[tactic(auto, unfolding(crate::specs::Request::ask_fill))]
+pub fn fill<const N: usize>(words: &Words, bytes: &mut [u8], store: &mut [u8], text: &mut Text<N>)
+    ensures { store.new ≡ store_after (ask_fill (length bytes.old) (length store.old) (words_of words.now)) store.old }
 {
-    if words.count != 3 {
+    if words.len() != 3 {
         return bad(text);
     }
-    let Number::Value(start) = read_number(word(line, words, 1)) else {
+    let Some(start) = words.number(1) else {
         return bad(text);
     };
-    let hex = hex_into(word(line, words, 2), bytes);
-    if hex.ok {
-        let n = hex.count;
-        return put_bytes(&bytes[..n], start as usize, store, text);
-    }
-    bad(text)
+    let Some(size) = decode(words.word(2), bytes) else {
+        return bad(text);
+    };
+    put_bytes(&bytes[..size], start as usize, store, text)
 }

@@ -6,13 +6,15 @@ use Rattle.wire.specs.Wire.{pick, both}
 use Rattle.memory.specs.Part.{part_fits}
 use Rattle.rdmap.specs.declared.stream.Stream.{Stream}
 use Rattle.domain.specs.Domain.{stream_at}
-use Rattle.arrival.specs.declared.Answer.TheVariants.{Refused}
 use Rattle.holding.specs.Pending.{room_bytes}
 use Rattle.holding.specs.Offer.{offer_answer, stream_room, domain_offered, domain_offered_bytes}
 use Rattle.holding.specs.declared.OfferAnswer.{OfferAnswer}
 use Rattle.rnic.specs.Rnic.{domain_at, with_domain, bytes_of, with_bytes}
 use Rattle.rnic.specs.declared.Rnic.{Rnic}
-use Rattle.rnic.specs.declared.RnicReceived.{RnicReceived}
+use Rattle.std.specs.Prelude.{Err, Result}
+use Rattle.wire.specs.declared.refusal.LocalRefusal.{LocalRefusal}
+use Rattle.wire.specs.declared.refusal.LocalRefusal.TheVariants.{BadPlace, OtherLength, OutOfRange}
+use Rattle.arrival.specs.declared.Answer.{Answer}
 
 -- ---- the second slice
 
@@ -46,14 +48,11 @@ held_bytes b n rooms = take (stream_numbered b n).framing.held (room_of rooms n)
 abbrev pub offer_asked : Rnic → ℕ → ℕ → Bool
 offer_asked b size many = both (eqb size b.len) (eqb many rooms_bytes)
 
-unfoldable pub offered_owned : Rnic → ℕ → ℕ → List ℕ → List ℕ → RnicReceived
+unfoldable pub offered_owned : Rnic → ℕ → ℕ → List ℕ → List ℕ → (Result Answer LocalRefusal × Rnic)
 offered_owned b size n rooms input =
     pick (part_fits (domain_at b (n / 4)).part size)
-    (record {
-      answer = (domain_offered (domain_at b (n / 4)) (n / 4) (n % 4) (held_bytes b n rooms) input).answer;
-      rnic = with_domain b (n / 4) (domain_offered (domain_at b (n / 4)) (n / 4) (n % 4) (held_bytes b n rooms) input).domain;
-    })
-    (record { answer = Refused 9; rnic = b })
+    ((domain_offered (domain_at b (n / 4)) (n / 4) (n % 4) (held_bytes b n rooms) input).0, with_domain b (n / 4) (domain_offered (domain_at b (n / 4)) (n / 4) (n % 4) (held_bytes b n rooms) input).1)
+    (Err BadPlace, b)
 
 unfoldable pub offered_owned_store : Rnic → ℕ → List ℕ → List ℕ → List ℕ → List ℕ
 offered_owned_store b n rooms input mem =
@@ -68,15 +67,15 @@ offered_owned_rooms b size n rooms input =
     rooms
 
 -- the device, and receive's answer to the pending bytes
-unfoldable pub rnic_offered : Rnic → ℕ → ℕ → List ℕ → List ℕ → RnicReceived
+unfoldable pub rnic_offered : Rnic → ℕ → ℕ → List ℕ → List ℕ → (Result Answer LocalRefusal × Rnic)
 rnic_offered b size n rooms input =
     pick (leb n 15)
-    (pick (offer_asked b size (length rooms)) (offered_owned b size n rooms input) (record { answer = Refused 2; rnic = b }))
-    (record { answer = Refused 1; rnic = b })
+    (pick (offer_asked b size (length rooms)) (offered_owned b size n rooms input) (Err OtherLength, b))
+    (Err OutOfRange, b)
 
 -- what the call answers
-abbrev pub rnic_offer_answer : Rnic → ℕ → ℕ → List ℕ → List ℕ → OfferAnswer
-rnic_offer_answer b size n rooms input = offer_answer (length (held_bytes b n rooms)) (length input) (rnic_offered b size n rooms input).answer
+abbrev pub rnic_offer_answer : Rnic → ℕ → ℕ → List ℕ → List ℕ → Result OfferAnswer LocalRefusal
+rnic_offer_answer b size n rooms input = offer_answer (length (held_bytes b n rooms)) (length input) (rnic_offered b size n rooms input).0
 
 -- the store afterwards: the owner's bytes alone can differ
 unfoldable pub rnic_offered_store : Rnic → ℕ → List ℕ → List ℕ → List ℕ → List ℕ

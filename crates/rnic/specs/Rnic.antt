@@ -5,24 +5,19 @@ use borrow.Rule.Slice.PartMut.{mid_of, put_mid}
 use Rattle.wire.specs.Wire.{pick, both}
 use Rattle.memory.specs.Part.{part_fits}
 use Rattle.memory.specs.Window.{live_count, lowest_free}
-use Rattle.memory.specs.declared.part.Outcome.TheVariants.{Done, Refused as NotDone}
-use Rattle.rdmap.specs.declared.stream.CloseAnswer.TheVariants.{Refused as NotClosed}
-use Rattle.rdmap.specs.declared.stream.TakeAnswer.TheVariants.{Refused as NotTaken}
-use Rattle.rdmap.specs.declared.stream.StateAnswer.{StateAnswer}
-use Rattle.rdmap.specs.declared.stream.StateAnswer.TheVariants.{Refused as NotStated}
 use Rattle.domain.specs.Domain.{new_domain, domain_opened, domain_closed, domain_posted, domain_taken, domain_state, domain_registered, domain_dropped, domain_ticked, domain_reading}
-use Rattle.arrival.specs.declared.Answer.TheVariants.{Refused}
 use Rattle.domain.specs.declared.Domain.{Domain}
 use Rattle.holding.specs.Offer.{domain_receives, domain_receives_bytes}
 use Rattle.rnic.specs.declared.Rnic.{Rnic}
-use Rattle.rnic.specs.declared.RnicDone.{RnicDone}
-use Rattle.rnic.specs.declared.RnicClosed.{RnicClosed}
-use Rattle.rnic.specs.declared.RnicTaken.{RnicTaken}
-use Rattle.rnic.specs.declared.RnicReceived.{RnicReceived}
-use Rattle.rnic.specs.declared.ReadingAnswer.{ReadingAnswer}
-use Rattle.rnic.specs.declared.ReadingAnswer.TheVariants.{Reads, Refused as NotRead}
-use Rattle.rnic.specs.declared.Count.{Count}
-use Rattle.rnic.specs.declared.Count.TheVariants.{Counted, Refused as NotCounted}
+use Rattle.std.specs.Prelude.{Err, Ok, Result}
+use Rattle.meter.specs.declared.gauge.Reading.{Reading}
+use Rattle.rdmap.specs.declared.stream.State.{State}
+use Rattle.wire.specs.declared.refusal.LocalRefusal.{LocalRefusal}
+use Rattle.wire.specs.declared.refusal.LocalRefusal.TheVariants.{BadPlace, OtherLength, OutOfRange}
+use Rattle.std.specs.Prelude.{⊤}
+use Rattle.rdmap.specs.declared.stream.Left.{Left}
+use Rattle.rdmap.specs.declared.read.ReadRequest.{ReadRequest}
+use Rattle.arrival.specs.declared.Answer.{Answer}
 
 -- past the last domain, of which nothing is asked: as an array's default
 abbrev pub no_domain : Domain
@@ -57,65 +52,50 @@ abbrev pub empty_rnic : Rnic
 empty_rnic = new_rnic 0 0 0 0 0 0 0 0 0
 
 -- "One state and one lent store of 1 to 16,777,216 bytes" (1); the parts (9)
-unfoldable pub opened_rnic : ℕ → ℕ → ℕ → ℕ → ℕ → ℕ → ℕ → ℕ → ℕ → RnicDone
+unfoldable pub opened_rnic : ℕ → ℕ → ℕ → ℕ → ℕ → ℕ → ℕ → ℕ → ℕ → (Result ⊤ LocalRefusal × Rnic)
 opened_rnic len s₀ e₀ s₁ e₁ s₂ e₂ s₃ e₃ =
     pick (both (leb 1 len) (leb len 16777216))
     (pick (in_order 0 (s₀ ∷ e₀ ∷ s₁ ∷ e₁ ∷ s₂ ∷ e₂ ∷ s₃ ∷ e₃ ∷ []) len)
-    (record { outcome = Done; rnic = new_rnic len s₀ e₀ s₁ e₁ s₂ e₂ s₃ e₃ })
-    (record { outcome = NotDone 9; rnic = empty_rnic }))
-    (record { outcome = NotDone 1; rnic = empty_rnic })
+    (Ok tt, new_rnic len s₀ e₀ s₁ e₁ s₂ e₂ s₃ e₃)
+    (Err BadPlace, empty_rnic))
+    (Err OutOfRange, empty_rnic)
 
 -- ---- calls on a stream: "Streams 0 to 15. Domain d owns 4d to 4d+3"
 
-unfoldable pub rnic_opened : Rnic → ℕ → Bool → RnicDone
+unfoldable pub rnic_opened : Rnic → ℕ → Bool → (Result ⊤ LocalRefusal × Rnic)
 rnic_opened b n crc =
     pick (leb n 15)
-    (record {
-      outcome = (domain_opened (domain_at b (n / 4)) (n % 4) crc).outcome;
-      rnic = with_domain b (n / 4) (domain_opened (domain_at b (n / 4)) (n % 4) crc).domain;
-    })
-    (record { outcome = NotDone 1; rnic = b })
+    ((domain_opened (domain_at b (n / 4)) (n % 4) crc).0, with_domain b (n / 4) (domain_opened (domain_at b (n / 4)) (n % 4) crc).1)
+    (Err OutOfRange, b)
 
-unfoldable pub rnic_closed : Rnic → ℕ → RnicClosed
+unfoldable pub rnic_closed : Rnic → ℕ → (Result Left LocalRefusal × Rnic)
 rnic_closed b n =
     pick (leb n 15)
-    (record {
-      answer = (domain_closed (domain_at b (n / 4)) (n % 4)).answer;
-      rnic = with_domain b (n / 4) (domain_closed (domain_at b (n / 4)) (n % 4)).domain;
-    })
-    (record { answer = NotClosed 1; rnic = b })
+    ((domain_closed (domain_at b (n / 4)) (n % 4)).0, with_domain b (n / 4) (domain_closed (domain_at b (n / 4)) (n % 4)).1)
+    (Err OutOfRange, b)
 
-unfoldable pub rnic_posted : Rnic → ℕ → ℕ → ℕ → RnicDone
+unfoldable pub rnic_posted : Rnic → ℕ → ℕ → ℕ → (Result ⊤ LocalRefusal × Rnic)
 rnic_posted b n start len =
     pick (leb n 15)
-    (record {
-      outcome = (domain_posted (domain_at b (n / 4)) (n % 4) start len).outcome;
-      rnic = with_domain b (n / 4) (domain_posted (domain_at b (n / 4)) (n % 4) start len).domain;
-    })
-    (record { outcome = NotDone 1; rnic = b })
+    ((domain_posted (domain_at b (n / 4)) (n % 4) start len).0, with_domain b (n / 4) (domain_posted (domain_at b (n / 4)) (n % 4) start len).1)
+    (Err OutOfRange, b)
 
-unfoldable pub rnic_taken : Rnic → ℕ → RnicTaken
+unfoldable pub rnic_taken : Rnic → ℕ → (Result ReadRequest LocalRefusal × Rnic)
 rnic_taken b n =
     pick (leb n 15)
-    (record {
-      answer = (domain_taken (domain_at b (n / 4)) (n % 4)).answer;
-      rnic = with_domain b (n / 4) (domain_taken (domain_at b (n / 4)) (n % 4)).domain;
-    })
-    (record { answer = NotTaken 1; rnic = b })
+    ((domain_taken (domain_at b (n / 4)) (n % 4)).0, with_domain b (n / 4) (domain_taken (domain_at b (n / 4)) (n % 4)).1)
+    (Err OutOfRange, b)
 
 -- a question, which changes nothing
-unfoldable pub rnic_state : Rnic → ℕ → StateAnswer
-rnic_state b n = pick (leb n 15) (domain_state (domain_at b (n / 4)) (n % 4)) (NotStated 1)
+unfoldable pub rnic_state : Rnic → ℕ → Result State LocalRefusal
+rnic_state b n = pick (leb n 15) (domain_state (domain_at b (n / 4)) (n % 4)) (Err OutOfRange)
 
 -- the owner's part lies in the store, or 9, which no device that was opened gives
-unfoldable pub received_owned : Rnic → ℕ → ℕ → List ℕ → RnicReceived
+unfoldable pub received_owned : Rnic → ℕ → ℕ → List ℕ → (Result Answer LocalRefusal × Rnic)
 received_owned b size n input =
     pick (part_fits (domain_at b (n / 4)).part size)
-    (record {
-      answer = (domain_receives (domain_at b (n / 4)) (n / 4) (n % 4) input).answer;
-      rnic = with_domain b (n / 4) (domain_receives (domain_at b (n / 4)) (n / 4) (n % 4) input).domain;
-    })
-    (record { answer = Refused 9; rnic = b })
+    ((domain_receives (domain_at b (n / 4)) (n / 4) (n % 4) input).0, with_domain b (n / 4) (domain_receives (domain_at b (n / 4)) (n / 4) (n % 4) input).1)
+    (Err BadPlace, b)
 
 unfoldable pub received_owned_store : Rnic → ℕ → List ℕ → List ℕ → List ℕ
 received_owned_store b n input mem =
@@ -124,11 +104,11 @@ received_owned_store b n input mem =
     mem
 
 -- receive is lent a store of some length: 1 the stream's number, 2 "lent store's length is not that of opening"
-unfoldable pub rnic_received : Rnic → ℕ → ℕ → List ℕ → RnicReceived
+unfoldable pub rnic_received : Rnic → ℕ → ℕ → List ℕ → (Result Answer LocalRefusal × Rnic)
 rnic_received b size n input =
     pick (leb n 15)
-    (pick (eqb size b.len) (received_owned b size n input) (record { answer = Refused 2; rnic = b }))
-    (record { answer = Refused 1; rnic = b })
+    (pick (eqb size b.len) (received_owned b size n input) (Err OtherLength, b))
+    (Err OutOfRange, b)
 
 -- and the store afterwards: the owner's bytes alone can differ
 unfoldable pub rnic_received_store : Rnic → ℕ → List ℕ → List ℕ → List ℕ
@@ -136,42 +116,36 @@ rnic_received_store b n input mem = pick (leb n 15) (pick (eqb (length mem) b.le
 
 -- ---- calls on a window: "Windows 0 to 63. Domain d owns 16d to 16d+15"
 
-unfoldable pub rnic_registered : Rnic → ℕ → ℕ → ℕ → ℕ → ℕ → ℕ → RnicDone
+unfoldable pub rnic_registered : Rnic → ℕ → ℕ → ℕ → ℕ → ℕ → ℕ → (Result ⊤ LocalRefusal × Rnic)
 rnic_registered b w key base len place rights =
     pick (leb w 63)
-    (record {
-      outcome = (domain_registered (domain_at b (w / 16)) (w % 16) key base len place rights).outcome;
-      rnic = with_domain b (w / 16) (domain_registered (domain_at b (w / 16)) (w % 16) key base len place rights).domain;
-    })
-    (record { outcome = NotDone 1; rnic = b })
+    ((domain_registered (domain_at b (w / 16)) (w % 16) key base len place rights).0, with_domain b (w / 16) (domain_registered (domain_at b (w / 16)) (w % 16) key base len place rights).1)
+    (Err OutOfRange, b)
 
-unfoldable pub rnic_dropped : Rnic → ℕ → RnicDone
+unfoldable pub rnic_dropped : Rnic → ℕ → (Result ⊤ LocalRefusal × Rnic)
 rnic_dropped b w =
     pick (leb w 63)
-    (record {
-      outcome = (domain_dropped (domain_at b (w / 16)) (w % 16)).outcome;
-      rnic = with_domain b (w / 16) (domain_dropped (domain_at b (w / 16)) (w % 16)).domain;
-    })
-    (record { outcome = NotDone 1; rnic = b })
+    ((domain_dropped (domain_at b (w / 16)) (w % 16)).0, with_domain b (w / 16) (domain_dropped (domain_at b (w / 16)) (w % 16)).1)
+    (Err OutOfRange, b)
 
 -- ---- questions of a domain
 
 -- "how many windows of a domain are live"
-unfoldable pub rnic_live : Rnic → ℕ → Count
-rnic_live b d = pick (leb d 3) (Counted (live_count (domain_at b d).windows)) (NotCounted 1)
+unfoldable pub rnic_live : Rnic → ℕ → Result ℕ LocalRefusal
+rnic_live b d = pick (leb d 3) (Ok (live_count (domain_at b d).windows)) (Err OutOfRange)
 
 -- "which of its sixteen slots is the lowest free (16 if none)"
-unfoldable pub rnic_free : Rnic → ℕ → Count
-rnic_free b d = pick (leb d 3) (Counted (lowest_free (domain_at b d).windows)) (NotCounted 1)
+unfoldable pub rnic_free : Rnic → ℕ → Result ℕ LocalRefusal
+rnic_free b d = pick (leb d 3) (Ok (lowest_free (domain_at b d).windows)) (Err OutOfRange)
 
 -- ---- a domain's gauge
 
 -- "A tick names one domain and is that domain's call, as is asking for its reading"
-unfoldable pub rnic_ticked : Rnic → ℕ → RnicDone
+unfoldable pub rnic_ticked : Rnic → ℕ → (Result ⊤ LocalRefusal × Rnic)
 rnic_ticked b d =
     pick (leb d 3)
-    (record { outcome = Done; rnic = with_domain b d (domain_ticked (domain_at b d)) })
-    (record { outcome = NotDone 1; rnic = b })
+    (Ok tt, with_domain b d (domain_ticked (domain_at b d)))
+    (Err OutOfRange, b)
 
-unfoldable pub rnic_reading : Rnic → ℕ → ReadingAnswer
-rnic_reading b d = pick (leb d 3) (Reads (domain_reading (domain_at b d))) (NotRead 1)
+unfoldable pub rnic_reading : Rnic → ℕ → Result Reading LocalRefusal
+rnic_reading b d = pick (leb d 3) (Ok (domain_reading (domain_at b d))) (Err OutOfRange)

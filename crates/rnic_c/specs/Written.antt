@@ -1,8 +1,9 @@
 -- What a writer of frames answers, in two words: 0 and a refusal's number, or 1 and the length.
 use Rattle.std.specs.Prelude.{ℕ, List, [], ◌∷◌}
-use Rattle.wire.specs.declared.Written.{Written}
-use Rattle.wire.specs.declared.Written.TheVariants.{Length, Refused}
+use Rattle.std.specs.Prelude.{Err, Ok, Result}
+use Rattle.wire.specs.declared.refusal.LocalRefusal.{LocalRefusal}
+use Rattle.wire.specs.Refusal.{refusal_number}
 
-abbrev pub written_words : Written → List ℕ
-written_words (Refused n) = 0 ∷ n ∷ []
-written_words (Length n) = 1 ∷ n ∷ []
+abbrev pub written_words : Result ℕ LocalRefusal → List ℕ
+written_words (Err k) = 0 ∷ refusal_number k ∷ []
+written_words (Ok n) = 1 ∷ n ∷ []

@@ -5,17 +5,17 @@ ghost use Rattle.mpa.specs.Fpdu.{fpdu_read};
 ghost use Rattle.rnic_c.specs.Startup.{is_set};
 ghost use Rattle.rnic_c.specs.Framing.{fpdu_words};
 
-use mpa::FpduRead;
 use mpa::fpdu::read_fpdu;
+use mpa::{FpduFault, FpduRead};
 
 // The words of what was read.
-fn fpdu_words(read: FpduRead) -> [u64; 4]
+fn fpdu_words(read: Result<FpduRead, FpduFault>) -> [u64; 4]
     ensures { result ≡ fpdu_words read }
 {
     match read {
-        FpduRead::Refused(number) => [0, number as u64, 0, 0],
-        FpduRead::Wait(n) => [5, n as u64, 0, 0],
-        FpduRead::Taken { total, start, len } => [6, total as u64, start as u64, len as u64],
+        Err(fault) => [0, fault.number() as u64, 0, 0],
+        Ok(FpduRead::Wait(n)) => [5, n as u64, 0, 0],
+        Ok(FpduRead::Taken { total, start, len }) => [6, total as u64, start as u64, len as u64],
     }
 }
 
@@ -25,6 +25,5 @@ fn fpdu_words(read: FpduRead) -> [u64; 4]
 pub extern "C" fn rnic_c_fpdu_read(crc: u64, bytes: &[u8], answer: &mut [u64; 4])
     ensures { answer.new ≡ fpdu_words (fpdu_read (is_set crc) bytes.now) }
 {
-    let read = read_fpdu(crc != 0, bytes);
-    *answer = fpdu_words(read);
+    *answer = fpdu_words(read_fpdu(crc != 0, bytes));
 }

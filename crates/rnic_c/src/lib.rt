@@ -32,6 +32,7 @@ pub mod startup;
 
 // A call by its number on a device that the caller holds, with the call's nine numbers, its bytes and the
 // store; the answer's words.
+#[tactic(auto, unfolding(calls::specs::Call::called, calls::specs::Call::called_store, wire::specs::Refusal::refusal_number))]
 #[unsafe(no_mangle)]
 pub extern "C" fn rnic_c_call(
     device: &mut [u64; 945],
@@ -45,32 +46,27 @@ pub extern "C" fn rnic_c_call(
 {
     match number {
         0 => {
-            let done = open(device, a[0], a[1], a[2], a[3], a[4], a[5], a[6], a[7], a[8]);
-            *answer = outcome_words(done);
+            *answer = outcome_words(open(
+                device, a[0], a[1], a[2], a[3], a[4], a[5], a[6], a[7], a[8],
+            ));
         }
         1 => {
-            let done = open_stream(device, a[0], a[1] != 0);
-            *answer = outcome_words(done);
+            *answer = outcome_words(open_stream(device, a[0], a[1] != 0));
         }
         2 => {
-            let done = close_stream(device, a[0]);
-            *answer = close_words(done);
+            *answer = close_words(close_stream(device, a[0]));
         }
         3 => {
-            let done = register(device, a[0], a[1], a[2], a[3], a[4], a[5]);
-            *answer = outcome_words(done);
+            *answer = outcome_words(register(device, a[0], a[1], a[2], a[3], a[4], a[5]));
         }
         4 => {
-            let done = drop_window(device, a[0]);
-            *answer = outcome_words(done);
+            *answer = outcome_words(drop_window(device, a[0]));
         }
         5 => {
-            let done = post(device, a[0], a[1], a[2]);
-            *answer = outcome_words(done);
+            *answer = outcome_words(post(device, a[0], a[1], a[2]));
         }
         6 => {
-            let done = take(device, a[0]);
-            *answer = take_words(done);
+            *answer = take_words(take(device, a[0]));
         }
         7 => {
             *answer = count_words(live_count(device, a[0]));
@@ -80,8 +76,7 @@ pub extern "C" fn rnic_c_call(
         }
         9 => rnic_c_receive(device, store, a[0], bytes, answer),
         10 => {
-            let done = tick(device, a[0]);
-            *answer = outcome_words(done);
+            *answer = outcome_words(tick(device, a[0]));
         }
         11 => {
             *answer = reading_words(reading(device, a[0]));

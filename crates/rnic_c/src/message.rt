@@ -10,7 +10,7 @@ ghost use Rattle.rnic_c.specs.Written.{written_words};
 use mpa::fpdu::write_fpdu;
 use sender::words::{begin_in, next_in};
 use sender::{begin_send, begin_write};
-use wire::Written;
+use wire::refusal::LocalRefusal;
 
 // Begins a Write of len bytes to an STag and a tagged offset, in ULPDUs of at most limit bytes: 0, or the
 // refusal's number.
@@ -52,18 +52,18 @@ pub extern "C" fn rnic_c_message_next(
     out: &mut [u8],
     answer: &mut [u64; 2],
 )
-    ensures { (message.new ≡ words_next message.old (next_of (message_at message.old) (length bytes.now) (length out.old))) × (answer.new ≡ segment_words (next_of (message_at message.old) (length bytes.now) (length out.old)).answer) × (out.new ≡ next_out (message_at message.old) bytes.now out.old) × (message_at message.new ≡ (next_of (message_at message.old) (length bytes.now) (length out.old)).message) }
+    ensures { (message.new ≡ words_next message.old (next_of (message_at message.old) (length bytes.now) (length out.old))) × (answer.new ≡ segment_words (next_of (message_at message.old) (length bytes.now) (length out.old)).0) × (out.new ≡ next_out (message_at message.old) bytes.now out.old) × (message_at message.new ≡ (next_of (message_at message.old) (length bytes.now) (length out.old)).1) }
 {
     next_in(message, bytes, out, answer);
 }
 
 // The words of a writer's answer.
-pub(crate) fn written_words(written: Written) -> [u64; 2]
+pub(crate) fn written_words(written: Result<usize, LocalRefusal>) -> [u64; 2]
     ensures { result ≡ written_words written }
 {
     match written {
-        Written::Refused(number) => [0, number as u64],
-        Written::Length(size) => [1, size as u64],
+        Err(refusal) => [0, refusal.number() as u64],
+        Ok(size) => [1, size as u64],
     }
 }
 
@@ -72,6 +72,5 @@ pub(crate) fn written_words(written: Written) -> [u64; 2]
 pub extern "C" fn rnic_c_fpdu_write(ulpdu: &[u8], out: &mut [u8], answer: &mut [u64; 2])
     ensures { (answer.new ≡ written_words (fpdu_written (length ulpdu.now) (length out.old))) × (out.new ≡ fpdu_out ulpdu.now out.old) }
 {
-    let written = write_fpdu(ulpdu, out);
-    *answer = written_words(written);
+    *answer = written_words(write_fpdu(ulpdu, out));
 }

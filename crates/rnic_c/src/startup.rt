@@ -14,7 +14,8 @@ ghost use Rattle.rnic_c.specs.Startup.{is_set, terms_words, terms_from, taken_wo
 use crate::message::written_words;
 use startup2::agree::{answer, settle};
 use startup2::frame::{read_frame, write_frame};
-use startup2::{Answered, Form, FrameRead, Settled, Terms};
+use startup2::{Agreed, Form, FrameRead, Terms};
+use wire::refusal::LocalRefusal;
 
 // A flag in a word.
 fn flag(b: bool) -> u64
@@ -59,20 +60,22 @@ fn taken_words(total: u64, start: u64, crc: bool, declined: bool, form: Form) ->
 }
 
 // The words of what was read.
-fn frame_words(read: FrameRead) -> [u64; 9]
+fn frame_words(read: Result<FrameRead, LocalRefusal>) -> [u64; 9]
     ensures { result ≡ frame_words read }
 {
     match read {
-        FrameRead::Wait(n) => [5, n as u64, 0, 0, 0, 0, 0, 0, 0],
-        FrameRead::Refused(number) => [0, number as u64, 0, 0, 0, 0, 0, 0, 0],
-        FrameRead::Taken {
-            total,
-            crc,
-            declined,
-            form,
-            start,
-            len: _,
-        } => taken_words(total as u64, start as u64, crc, declined, form),
+        Ok(FrameRead::Wait(n)) => [5, n as u64, 0, 0, 0, 0, 0, 0, 0],
+        Err(refusal) => [0, refusal.number() as u64, 0, 0, 0, 0, 0, 0, 0],
+        Ok(
+            FrameRead::Taken {
+                total,
+                crc,
+                declined,
+                form,
+                start,
+                len: _,
+            },
+        ) => taken_words(total as u64, start as u64, crc, declined, form),
     }
 }
 
@@ -82,15 +85,14 @@ fn frame_words(read: FrameRead) -> [u64; 9]
 pub extern "C" fn rnic_c_startup_read(reply: u64, bytes: &[u8], found: &mut [u64; 9])
     ensures { found.new ≡ frame_words (frame_read (is_set reply) bytes.now) }
 {
-    let read = read_frame(reply != 0, bytes);
-    *found = frame_words(read);
+    *found = frame_words(read_frame(reply != 0, bytes));
 }
 
 // Whether a kind is that of a frame that can be written.
 fn is_form(kind: u64) -> bool
     ensures { result ≡ is_form kind }
 {
-    if 1 <= kind { kind <= 3 } else { false }
+    1 <= kind && kind <= 3
 }
 
 // The form in the words of a frame.
@@ -114,6 +116,7 @@ fn form_at(frame: &[u64; 9]) -> Form
 
 // Writes the frame in the words, of a request where reply is 0 and else of a reply, with the private data to
 // the start of out. Total and start are not looked at, so that what was read can be written again.
+#[tactic(auto, unfolding(crate::specs::Startup::form_written, crate::specs::Startup::form_out, wire::specs::Refusal::refusal_number))]
 #[unsafe(no_mangle)]
 pub extern "C" fn rnic_c_startup_write(
     reply: u64,
@@ -142,16 +145,21 @@ pub extern "C" fn rnic_c_startup_write(
 
 // Puts a responder's answer into the words, with its own IRD for what it keeps to: 0, or the refusal's number,
 // and then the words stay.
-fn answer_in(answered: Answered, ird: u64, reply: &mut [u64; 4], kept: &mut [u64; 4]) -> u32
+fn answer_in(
+    answered: Result<Agreed, LocalRefusal>,
+    ird: u64,
+    reply: &mut [u64; 4],
+    kept: &mut [u64; 4],
+) -> u32
     ensures { (result ≡ answered_number answered) × (reply.new ≡ reply_words reply.old answered) × (kept.new ≡ answered_words kept.old ird answered) }
 {
     match answered {
-        Answered::Agreed { reply: said, ord } => {
+        Ok(Agreed { reply: said, ord }) => {
             *reply = terms_words(said);
             *kept = [flag(said.peer), ird, ord, said.kinds];
             0
         }
-        Answered::Refused(number) => number as u32,
+        Err(refusal) => refusal.number() as u32,
     }
 }
 
@@ -171,15 +179,15 @@ pub extern "C" fn rnic_c_agree_answer(
 }
 
 // Puts what an initiator made of a reply into the words: 0, or the refusal's number, and then they stay.
-fn settle_in(settled: Settled, kept: &mut [u64; 4]) -> u32
+fn settle_in(settled: Result<Terms, LocalRefusal>, kept: &mut [u64; 4]) -> u32
     ensures { (result ≡ settled_number settled) × (kept.new ≡ settled_words kept.old settled) }
 {
     match settled {
-        Settled::Agreed(terms) => {
+        Ok(terms) => {
             *kept = terms_words(terms);
             0
         }
-        Settled::Refused(number) => number as u32,
+        Err(refusal) => refusal.number() as u32,
     }
 }
 

@@ -137,7 +137,7 @@ pub extern "C" fn rnic_c_message_next(
     out: &mut [u8],
     answer: &mut [u64; 2],
 )
-    ensures { (message.new ≡ words_next message.old (next_of (message_at message.old) (length bytes.now) (length out.old))) × (answer.new ≡ segment_words (next_of (message_at message.old) (length bytes.now) (length out.old)).answer) × (out.new ≡ next_out (message_at message.old) bytes.now out.old) × (message_at message.new ≡ (next_of (message_at message.old) (length bytes.now) (length out.old)).message) }
+    ensures { (message.new ≡ words_next message.old (next_of (message_at message.old) (length bytes.now) (length out.old))) × (answer.new ≡ segment_words (next_of (message_at message.old) (length bytes.now) (length out.old)).0) × (out.new ≡ next_out (message_at message.old) bytes.now out.old) × (message_at message.new ≡ (next_of (message_at message.old) (length bytes.now) (length out.old)).1) }
 {
     rnic_c::message::rnic_c_message_next(message, bytes, out, answer);
 }

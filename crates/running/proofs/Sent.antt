@@ -1,15 +1,12 @@
 -- A command on messages asks nothing of the device and the store.
 -- Assumes nothing.
 use Prim.Native.Nat.{ℕ}
-use mathlib.Core.Bool.{Bool, true, false, true≢false}
+use mathlib.Core.Bool.{Bool, true, false}
 use mathlib.Core.Path.{◌≡◌, refl, sym, ap, ◌∙◌}
-use mathlib.Core.List.{List, [], ◌∷◌}
-use lib.ListN.{length}
-use borrow.Author.Tests.{ne_eqb}
-use native.Mathlib.Omega.{arith}
+use mathlib.Core.List.{List}
 use Rattle.wire.specs.Wire.{pick, same}
 use Rattle.wire.proofs.Laws.{same-eq}
-use Rattle.command.specs.Args.{line_words, word_of, numbers_of}
+use Rattle.command.specs.Args.{line_words, word_of}
 use Rattle.command.specs.Frames.{is_frame}
 use Rattle.sums.specs.Sums.{is_sum}
 use Rattle.starting.specs.Starting.{is_start}
@@ -21,23 +18,14 @@ pick_same : {A : Type 0} (t : Bool) (x y : A) → y ≡ x → pick t x y ≡ x
 pick_same true x y e = refl
 pick_same false x y e = e
 
--- no call has a line of no words
-no_words : (ws : List (List ℕ)) → (length ws ≡ 0 → ⊥) → (numbers_of ws 0).ok ≡ false
-unfolding numbers_of
-no_words ws h = rw (ne_eqb (length ws) 0 h)
-
-named : (ws : List (List ℕ)) (x : ℕ) (xs : List ℕ) → word_of ws 0 ≡ x ∷ xs → length ws ≡ 0 → ⊥
-named [] x xs e = absurd (true≢false (ap (λ (l : List ℕ). same l []) e))
-named (w ∷ ws) x xs e = λ z. omega arith
-
 module _ (kept room size : ℕ) (ws : List (List ℕ)) where
   message-text : word_of ws 0 ≡ message_name → ask_device kept room size ws ≡ text
   unfolding ask_device ask_call ask_numbers shape_of gauge_shape
-  message-text e = rw e (rw (no_words ws (named ws _ _ e)))
+  message-text e = rw e
 
   segment_text : word_of ws 0 ≡ segment_name → ask_device kept room size ws ≡ text
   unfolding ask_device ask_call ask_numbers shape_of gauge_shape
-  segment_text e = rw e (rw (no_words ws (named ws _ _ e)))
+  segment_text e = rw e
 
   order_text : is_order (word_of ws 0) ≡ true → ask_device kept room size ws ≡ text
   unfolding is_order

@@ -26,7 +26,7 @@ state_at kept words = record { kept = kept; rnic = rnic_at words }
 
 -- "Before the first `open` the device is as a refused opening leaves it", and nothing is lent
 abbrev pub first_state : State
-first_state = record { kept = 0; rnic = (opened_rnic 0 0 0 0 0 0 0 0 0).rnic }
+first_state = record { kept = 0; rnic = (opened_rnic 0 0 0 0 0 0 0 0 0).1 }
 
 -- what a line of `count` bytes asks, which a buffer starts with; a line that is longer than the buffer is `bad`
 abbrev pub line_request : ℕ → ℕ → ℕ → List ℕ → ℕ → Request

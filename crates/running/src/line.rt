@@ -14,6 +14,7 @@ fn line_fits(size: usize, count: usize, more: usize) -> bool
 
 // Puts more bytes of a line behind its first `count`, and answers how many there are then. Where they
 // do not fit the line is too long: they are not kept, and the count is one more than the buffer holds.
+#[tactic(auto, unfolding(crate::specs::Line::added_count, crate::specs::Line::added_bytes))]
 pub fn add_bytes(line: &mut [u8], count: usize, more: &[u8]) -> usize
     ensures next { result ≡ added_count (length line.old) count (length more.now) }
     ensures bytes { line.new ≡ added_bytes line.old count more.now }

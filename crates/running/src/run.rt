@@ -1,5 +1,5 @@
 // One line of the script: it is run, and its answer is put into a text.
-ghost use Rattle.std.specs.Prelude.{◌≡◌, min, ◌≤◌, ◌++◌, length, take, drop};
+ghost use Rattle.std.specs.Prelude.{◌≡◌, min, ◌++◌, length, take, drop};
 ghost use Rattle.calls.specs.Call.{called, called_store};
 ghost use Rattle.block.specs.Device.{rnic_at};
 ghost use Rattle.running.specs.Run.{
@@ -21,38 +21,29 @@ use command::args::room;
 use device::opening::open;
 use holding::gather::ROOMS;
 use report::tell;
-use request::{Asked, ask};
+use request::{DeviceCall, ask};
 use rnic_c::rnic_c_call;
+use script::text::Text;
 use sending::is_sending;
-
-// What a line hands on besides the device and the store: the LENGTH of the last `open`, which is how
-// many of the store's bytes a line lends that does not say, and how many bytes of the text are its answer,
-// none where it is not answered.
-#[derive(Drop)]
-pub struct Ran {
-    pub kept: u64,
-    pub count: usize,
-}
 
 // What a run starts with: puts the device that a refused opening leaves into the words, and answers how
 // many bytes are lent, none.
 pub fn first_state(device: &mut [u64; 945]) -> u64
     ensures { state_at result device.new ≡ first_state }
 {
-    open(device, 0, 0, 0, 0, 0, 0, 0, 0, 0);
+    let _ = open(device, 0, 0, 0, 0, 0, 0, 0, 0, 0);
     0
 }
 
 // Makes a call on the first bytes of the store with the first bytes of the buffer, as many as are asked
 // for and there, and answers it.
-fn make_call(
-    asked: Asked,
+fn make_call<const N: usize>(
+    asked: DeviceCall,
     device: &mut [u64; 945],
     bytes: &[u8],
     store: &mut [u8],
-    text: &mut [u8],
-) -> usize
-    ensures within { result ≤ length text.old }
+    text: &mut Text<N>,
+)
     ensures rnic { rnic_at device.new ≡ (called (rnic_at device.old) (min asked.lent (length store.old)) asked.number asked.numbers (take (min asked.size (length bytes.now)) bytes.now)).rnic }
     ensures rest { store.new ≡ called_store (rnic_at device.old) asked.number asked.numbers (take (min asked.size (length bytes.now)) bytes.now) (take (min asked.lent (length store.old)) store.old) ++ drop (min asked.lent (length store.old)) store.old }
 {
@@ -74,7 +65,8 @@ fn make_call(
 
 // Runs a line of `count` bytes that is no command on messages, which the buffer `line` starts with unless
 // the line is too long.
-fn run_asked(
+#[tactic(auto, using(crate::proofs::Lines::call_made, crate::proofs::Lines::no_call))]
+fn run_asked<const N: usize>(
     kept: u64,
     device: &mut [u64; 945],
     line: &[u8],
@@ -82,34 +74,26 @@ fn run_asked(
     bytes: &mut [u8],
     frame: &mut [u8],
     store: &mut [u8],
-    text: &mut [u8],
-) -> Ran
-    ensures within { result.count ≤ length text.old }
-    ensures state { state_at result.kept device.new ≡ state_after (state_at kept device.old) (line_request kept (length bytes.old) (length store.old) line.now count) store.old }
+    text: &mut Text<N>,
+) -> u64
+    ensures state { state_at result device.new ≡ state_after (state_at kept device.old) (line_request kept (length bytes.old) (length store.old) line.now count) store.old }
     ensures rest { store.new ≡ store_then (state_at kept device.old) (line_request kept (length bytes.old) (length store.old) line.now count) store.old }
 {
     if line.len() < count {
-        let n = bad(text);
-        return Ran { kept, count: n };
+        bad(text);
+        return kept;
     }
-    let asked = ask(&line[..count], kept, bytes, frame, store, text);
-    if asked.call {
-        let n = make_call(asked, device, bytes, store, text);
-        return Ran {
-            kept: asked.kept,
-            count: n,
-        };
+    if let Some(call) = ask(&line[..count], kept, bytes, frame, store, text) {
+        make_call(call, device, bytes, store, text);
+        return call.kept;
     }
-    Ran {
-        kept,
-        count: asked.count,
-    }
+    kept
 }
 
 // Runs a line of `count` bytes that is no command on offers, which the buffer `line` starts with unless the
 // line is too long. A command on messages is run on the message begun last, its words and its bytes in
 // front of `held`, and on nothing else.
-fn run_other(
+fn run_other<const N: usize>(
     kept: u64,
     device: &mut [u64; 945],
     message: &mut [u64; 9],
@@ -119,10 +103,9 @@ fn run_other(
     bytes: &mut [u8],
     frame: &mut [u8],
     store: &mut [u8],
-    text: &mut [u8],
-) -> Ran
-    ensures within { result.count ≤ length text.old }
-    ensures state { state_at result.kept device.new ≡ state_after (state_at kept device.old) (line_request kept (length bytes.old) (length store.old) line.now count) store.old }
+    text: &mut Text<N>,
+) -> u64
+    ensures state { state_at result device.new ≡ state_after (state_at kept device.old) (line_request kept (length bytes.old) (length store.old) line.now count) store.old }
     ensures rest { store.new ≡ store_then (state_at kept device.old) (line_request kept (length bytes.old) (length store.old) line.now count) store.old }
     ensures message { message.new ≡ line_message message.old (length held.old) (length bytes.old) (length frame.old) line.now count }
     ensures held { held.new ≡ line_held held.old (length bytes.old) line.now count }
@@ -131,15 +114,17 @@ fn run_other(
         return run_asked(kept, device, line, count, bytes, frame, store, text);
     }
     if is_sending(&line[..count]) {
-        let n = sending::run(&line[..count], message, held, bytes, frame, text);
-        return Ran { kept, count: n };
+        sending::run(&line[..count], message, held, bytes, frame, text);
+        return kept;
     }
     run_asked(kept, device, line, count, bytes, frame, store, text)
 }
 
-// Runs a line of `count` bytes, which the buffer `line` starts with unless the line is too long. A command
-// on offers is run on the device, the store and the second slice, `rooms`, which no other line touches.
-pub fn run_line(
+// Runs a line of `count` bytes, which the buffer `line` starts with unless the line is too long, and puts its
+// answer into the text, nothing where it is not answered. Answers the LENGTH of the last `open` then, which is
+// how many of the store's bytes a line lends that does not say. A command on offers is run on the device, the
+// store and the second slice, `rooms`, which no other line touches.
+pub fn run_line<const N: usize>(
     kept: u64,
     device: &mut [u64; 945],
     message: &mut [u64; 9],
@@ -150,17 +135,18 @@ pub fn run_line(
     frame: &mut [u8],
     store: &mut [u8],
     rooms: &mut [u8; ROOMS],
-    text: &mut [u8],
-) -> Ran
-    ensures within { result.count ≤ length text.old }
-    ensures state { state_at result.kept device.new ≡ line_state (state_at kept device.old) (length bytes.old) store.old rooms.old line.now count }
+    text: &mut Text<N>,
+) -> u64
+    ensures state { state_at result device.new ≡ line_state (state_at kept device.old) (length bytes.old) store.old rooms.old line.now count }
     ensures rest { store.new ≡ line_store (state_at kept device.old) (length bytes.old) store.old rooms.old line.now count }
     ensures rooms { rooms.new ≡ line_rooms (state_at kept device.old) (length bytes.old) store.old rooms.old line.now count }
     ensures message { message.new ≡ line_message message.old (length held.old) (length bytes.old) (length frame.old) line.now count }
     ensures held { held.new ≡ line_held held.old (length bytes.old) line.now count }
 {
+    text.clear();
     if offers(line, count) {
-        return run_offering(kept, device, &line[..count], bytes, store, rooms, text);
+        run_offering(kept, device, &line[..count], bytes, store, rooms, text);
+        return kept;
     }
     run_other(
         kept, device, message, held, line, count, bytes, frame, store, text,

@@ -9,12 +9,11 @@ use native.Mathlib.Omega.{arith}
 use lib.Dec.{ltb}
 use lib.ListN.{length, get_or, drop, length-append}
 use borrow.Author.Tests.{lt-ltb, ltb-true, ltb-false, eq-eqb, ne_eqb}
+use Rattle.std.specs.Prelude.{Some}
+use Rattle.std.proofs.lemmas.Bool.Decides.{nat_tests}
 use Rattle.script.specs.Number.{is_digit, all, value_from, number_from, number_of, digits_of, decimal}
 use Rattle.wire.proofs.Laws.{same_false}
 use Rattle.script.specs.Hex.{dash, nibble, is_hex_digit, is_hex, hex_length_of, pairs, decoded_of, decoded_in, lower, hex_digits, hex_text}
-use Rattle.script.specs.declared.number.Number.TheVariants.{Value}
-use Rattle.script.specs.declared.hex.HexLength.{HexLength}
-use Rattle.script.specs.declared.hex.Decoded.{Decoded}
 use Rattle.script.proofs.Digits.{inside, value_digit, value_lower}
 use Rattle.script.proofs.Numbers.{number-some}
 use Rattle.script.proofs.Pairs.{length_digits}
@@ -28,7 +27,6 @@ value_snoc u [] b = refl
 value_snoc u (x ∷ l) b = value_snoc (u * 10 + (x - 48)) l b
 
 all_snoc : (p : ℕ → Bool) (l : List ℕ) (b : ℕ) → all p l ≡ true → p b ≡ true → all p (l ++ (b ∷ [])) ≡ true
-unfolding all
 all_snoc p [] b e f = rw f
 all_snoc p (x ∷ l) b e f = rw (both (p x) (all p l) e).0 (all_snoc p l b (both (p x) (all p l) e).1 f)
 
@@ -39,7 +37,7 @@ record Reads (v : ℕ) (l : List ℕ) : Type 0 where
   some : length l ≡ 0 → ⊥
 
 one : (v : ℕ) → v < 10 → Reads v ((48 + v) ∷ [])
-unfolding value_from all
+unfolding value_from
 one v h = record { value = omega arith; digits = rw (inside 48 57 (48 + v) (omega arith) (omega arith)); some = λ e. omega arith }
 
 more : (v : ℕ) (l : List ℕ) → Reads (v / 10) l → Reads v (l ++ ((48 + v % 10) ∷ []))
@@ -61,7 +59,7 @@ digits_read (suc k) v h l =
     digits_by k v (ltb v 10) refl (λ n. digits_read k (v / 10) (omega arith) (omega (arith, pow-suc 10 k)))
 
 -- every number of 64 bits is read back from its digits
-pub number_back : (v : ℕ) → v < 2 ^ 64 → number_of (decimal v) ≡ Value v
+pub number_back : (v : ℕ) → v < 2 ^ 64 → number_of (decimal v) ≡ Some v
 unfolding decimal number_from
 number_back v h =
     let r = digits_read 20 v (omega arith) (omega arith) in
@@ -78,6 +76,9 @@ digit_back n h = go (ltb n 10) refl
         let l = ltb-false n 10 e in
         value_lower (97 + (n - 10)) (omega arith) (omega arith) ∙ omega arith
 
+digit_written : (n : ℕ) → n < 16 → is_hex_digit (lower n) ≡ true
+digit_written n h = grind (arith, nat_tests)
+
 module _ (b : ℕ) (h : b < 256) where
   high_back : nibble (lower (b / 16)) ≡ b / 16
   high_back = digit_back (b / 16) (omega arith)
@@ -86,10 +87,10 @@ module _ (b : ℕ) (h : b < 256) where
   low_back = digit_back (b % 16) (omega arith)
 
 all_digits : (l : List ℕ) → ((i : ℕ) → get_or l i 0 < 256) → all is_hex_digit (hex_digits l) ≡ true
-unfolding all hex_digits
+unfolding hex_digits
 all_digits [] h = refl
 all_digits (b ∷ l) h =
-    rw (high_back b (h 0), low_back b (h 0), lt-ltb (b / 16) 16 (omega (arith, h 0)), lt-ltb (b % 16) 16 (omega arith))
+    rw (digit_written (b / 16) (omega (arith, h 0)), digit_written (b % 16) (omega arith))
     (all_digits l (λ i. h (suc i)))
 
 pairs_back : (l : List ℕ) → ((i : ℕ) → get_or l i 0 < 256) → pairs (hex_digits l) ≡ l
@@ -99,7 +100,7 @@ pairs_back (b ∷ l) h =
     let e : b / 16 * 16 + b % 16 ≡ b = omega arith in
     rw (high_back b (h 0), low_back b (h 0), e, pairs_back l (λ i. h (suc i)))
 
-length_back : (l : List ℕ) → ((i : ℕ) → get_or l i 0 < 256) → hex_length_of (hex_text l) ≡ HexLength.Bytes (length l)
+length_back : (l : List ℕ) → ((i : ℕ) → get_or l i 0 < 256) → hex_length_of (hex_text l) ≡ Some (length l)
 unfolding hex_length_of hex_text is_hex
 length_back [] h = refl
 length_back (b ∷ l) h =
@@ -115,7 +116,7 @@ text_back (b ∷ l) h = pairs_back (b ∷ l) h
 
 -- bytes are decoded from their hex, wherever there is room for them
 pub bytes_back : (l out : List ℕ) → ((i : ℕ) → get_or l i 0 < 256) → length l ≤ length out
-    → (decoded_of (hex_text l) (length out) ≡ Decoded.Bytes (length l)) × (decoded_in (hex_text l) out ≡ l ++ drop (length l) out)
+    → (decoded_of (hex_text l) (length out) ≡ Some (length l)) × (decoded_in (hex_text l) out ≡ l ++ drop (length l) out)
 bytes_back l out h k =
     let d = decoded (hex_text l) out (length l) (length_back l h) k in
     (sym d.0, sym d.1 ∙ ap (λ (s : List ℕ). s ++ drop (length l) out) (text_back l h))

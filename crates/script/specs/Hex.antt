@@ -1,10 +1,9 @@
 -- "HEX is an even count of hex digits of either case, `-` where there are no bytes; hex is written in lower case."
 -- Assumes nothing.
-use Rattle.std.specs.Prelude.{ℕ, ◌+◌, ◌-◌, ◌*◌, ◌/◌, ◌%◌, Bool, not, cond, ◌&&◌, List, [], ◌∷◌, ◌++◌, length, drop, eqb, ltb, leb}
+use Rattle.std.specs.Prelude.{ℕ, ◌+◌, ◌-◌, ◌*◌, ◌/◌, ◌%◌, Bool, not, cond, ◌&&◌, List, [], ◌∷◌, ◌++◌, Option, Some, None, length, drop, eqb, ltb, leb}
+use Rattle.std.specs.Char.{is_ascii_hexdigit}
 use Rattle.script.specs.Number.{between, is_digit, all}
 use Rattle.wire.specs.Wire.{same}
-use Rattle.script.specs.declared.hex.HexLength.{HexLength}
-use Rattle.script.specs.declared.hex.Decoded.{Decoded}
 
 -- '-'
 abbrev pub dash : List ℕ
@@ -16,15 +15,15 @@ nibble b = cond (is_digit b) (b - 48) (cond (between 65 70 b) (b - 55) (cond (be
 
 -- a digit, and no other byte
 abbrev pub is_hex_digit : ℕ → Bool
-is_hex_digit b = ltb (nibble b) 16
+is_hex_digit b = is_ascii_hexdigit b
 
 -- an even count of hex digits, and not none
 unfoldable pub is_hex : List ℕ → Bool
 is_hex w = not (eqb (length w) 0) && eqb (length w % 2) 0 && all is_hex_digit w
 
 -- how many bytes a word stands for
-unfoldable pub hex_length_of : List ℕ → HexLength
-hex_length_of w = cond (same w dash) (HexLength.Bytes 0) (cond (is_hex w) (HexLength.Bytes (length w / 2)) HexLength.Bad)
+unfoldable pub hex_length_of : List ℕ → Option ℕ
+hex_length_of w = cond (same w dash) (Some 0) (cond (is_hex w) (Some (length w / 2)) None)
 
 -- the bytes that pairs of digits stand for, the high digit first
 unfoldable pub pairs : List ℕ → List ℕ
@@ -33,18 +32,18 @@ pairs (h ∷ []) = []
 pairs (h ∷ l ∷ w) = (nibble h * 16 + nibble l) ∷ pairs w
 
 -- n bytes where there is room for them
-abbrev pub with_room : HexLength → ℕ → Decoded
-with_room (HexLength.Bytes n) room = cond (leb n room) (Decoded.Bytes n) Decoded.Bad
-with_room HexLength.Bad room = Decoded.Bad
+abbrev pub with_room : Option ℕ → ℕ → Option ℕ
+with_room (Some n) room = cond (leb n room) (Some n) None
+with_room None room = None
 
 -- how many bytes are written for a word into `room` bytes
-unfoldable pub decoded_of : List ℕ → ℕ → Decoded
+unfoldable pub decoded_of : List ℕ → ℕ → Option ℕ
 decoded_of w room = with_room (hex_length_of w) room
 
 -- the word's bytes and then the rest of out, or all of out
-abbrev pub written : Decoded → List ℕ → List ℕ → List ℕ
-written (Decoded.Bytes n) w out = pairs w ++ drop n out
-written Decoded.Bad w out = out
+abbrev pub written : Option ℕ → List ℕ → List ℕ → List ℕ
+written (Some n) w out = pairs w ++ drop n out
+written None w out = out
 
 -- out with the word's bytes at its start, or as it was
 unfoldable pub decoded_in : List ℕ → List ℕ → List ℕ

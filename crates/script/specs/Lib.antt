@@ -1,4 +1,4 @@
 pub mod Word
 pub mod Number
 pub mod Hex
-pub mod Put
+pub mod Text

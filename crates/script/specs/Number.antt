@@ -1,8 +1,7 @@
 -- "A number is decimal digits alone, 0 to 2^64 - 1": how a word is read as one, and the digits that are written for one.
 -- Assumes nothing.
-use Rattle.std.specs.Prelude.{ℕ, zero, suc, ◌+◌, ◌-◌, ◌*◌, ◌/◌, ◌%◌, ◌^◌, Bool, true, cond, ◌&&◌, List, [], ◌∷◌, ◌++◌, ltb, leb}
-use Rattle.script.specs.declared.number.Number.{Number}
-use Rattle.script.specs.declared.number.Number.TheVariants.{Value, Bad}
+use Rattle.std.specs.Prelude.{ℕ, zero, suc, ◌+◌, ◌-◌, ◌*◌, ◌/◌, ◌%◌, ◌^◌, Bool, cond, ◌&&◌, List, [], ◌∷◌, ◌++◌, Option, Some, None, ltb, leb}
+use Rattle.std.specs.List.{list_all}
 
 -- whether b is one of the bytes from a to e
 abbrev pub between : ℕ → ℕ → ℕ → Bool
@@ -13,9 +12,8 @@ abbrev pub is_digit : ℕ → Bool
 is_digit b = between 48 57 b
 
 -- whether every byte of a list passes a test
-unfoldable pub all : (ℕ → Bool) → List ℕ → Bool
-all p [] = true
-all p (b ∷ l) = p b && all p l
+abbrev pub all : (ℕ → Bool) → List ℕ → Bool
+all p l = list_all p l
 
 -- v, with the digits of a list after it
 unfoldable pub value_from : ℕ → List ℕ → ℕ
@@ -23,16 +21,16 @@ value_from v [] = v
 value_from v (b ∷ l) = value_from (v * 10 + (b - 48)) l
 
 -- a number of 64 bits
-abbrev pub bounded : ℕ → Number
-bounded n = cond (ltb n (2 ^ 64)) (Value n) Bad
+abbrev pub bounded : ℕ → Option ℕ
+bounded n = cond (ltb n (2 ^ 64)) (Some n) None
 
 -- v with the digits of a word after it, if the word has digits alone
-unfoldable pub number_from : ℕ → List ℕ → Number
-number_from v w = cond (all is_digit w) (bounded (value_from v w)) Bad
+unfoldable pub number_from : ℕ → List ℕ → Option ℕ
+number_from v w = cond (all is_digit w) (bounded (value_from v w)) None
 
 -- one digit or more, and the number fits 64 bits
-unfoldable pub number_of : List ℕ → Number
-number_of [] = Bad
+unfoldable pub number_of : List ℕ → Option ℕ
+number_of [] = None
 number_of (b ∷ w) = number_from 0 (b ∷ w)
 
 -- the digits of v, at most k of them

@@ -1,66 +1,59 @@
 // The lines of a script, and the words of a line.
-ghost use Rattle.std.specs.Prelude.{◌≡◌};
+ghost use Rattle.std.specs.Prelude.{◌≡◌, ◌<◌, ◌≤◌, length, drop, IfSome};
+ghost use Rattle.std.specs.List.{prefix_len};
 ghost use Rattle.script.specs.Word.{is_space, not_space, not_newline, past, word_at};
 
-// Where a word stands: from start up to, not with, end.
-#[derive(Drop)]
-pub enum Word {
-    At { start: usize, end: usize },
-    Nothing,
+use std::ops::Range;
+
+// The bytes from `from` on, none past the end.
+fn rest(bytes: &[u8], from: usize) -> &[u8]
+    ensures { result.now ≡ drop from bytes.now }
+{
+    &bytes[from.min(bytes.len())..]
 }
 
-// The first place from `from` on that holds no space.
-fn past_spaces(line: &[u8], from: usize) -> usize
-    ensures { result ≡ past is_space line.now from }
+// How many spaces stand from `from` on.
+#[tactic(auto, using(crate::proofs::Scan::counted))]
+fn spaces(line: &[u8], from: usize) -> usize
+    ensures { result ≡ prefix_len is_space (drop from line.now) }
 {
-    let mut i = from;
-    while i < line.len() {
-        if line[i] == b' ' {
-            i += 1;
-        } else {
-            return i;
-        }
-    }
-    i
+    rest(line, from).iter().take_while(|b| **b == b' ').count()
 }
 
-// The first place from `from` on that holds a space, or the line's end.
-fn past_word(line: &[u8], from: usize) -> usize
-    ensures { result ≡ past not_space line.now from }
+// How many bytes stand from `from` on, up to a space or the line's end.
+#[tactic(auto, using(crate::proofs::Scan::counted))]
+fn word_len(line: &[u8], from: usize) -> usize
+    ensures { result ≡ prefix_len not_space (drop from line.now) }
 {
-    let mut end = from;
-    while end < line.len() {
-        if line[end] == b' ' {
-            return end;
-        }
-        end += 1;
-    }
-    end
+    rest(line, from).iter().take_while(|b| **b != b' ').count()
 }
 
-// The first word of the line from `from` on.
-pub fn next_word(line: &[u8], from: usize) -> Word
-    ensures { result ≡ word_at line.now from }
+// How many bytes stand from `from` on, up to a newline or the bytes' end.
+#[tactic(auto, using(crate::proofs::Scan::counted))]
+fn line_len(bytes: &[u8], from: usize) -> usize
+    ensures { result ≡ prefix_len not_newline (drop from bytes.now) }
 {
-    let start = past_spaces(line, from);
-    let end = past_word(line, start);
-    if start < end {
-        Word::At { start, end }
-    } else {
-        Word::Nothing
-    }
+    rest(bytes, from)
+        .iter()
+        .take_while(|b| **b != b'\n')
+        .count()
+}
+
+// Where the first word of the line from `from` on stands.
+#[tactic(auto, using(crate::proofs::Scan::fits), unfolding(crate::specs::Word::word_at))]
+pub fn next_word(line: &[u8], from: usize) -> Option<Range<usize>>
+    ensures word { result ≡ word_at line.now from }
+    ensures within { IfSome result (λ word. (word.start < word.end) × (word.end ≤ length line.now)) }
+{
+    let start = from + spaces(line, from);
+    let end = start + word_len(line, start);
+    (start < end).then_some(start..end)
 }
 
 // The first place from `from` on that holds a newline, or the bytes' end.
+#[tactic(auto, using(crate::proofs::Scan::fits))]
 pub fn line_end(bytes: &[u8], from: usize) -> usize
     ensures { result ≡ past not_newline bytes.now from }
 {
-    let mut at = from;
-    while at < bytes.len() {
-        if bytes[at] == b'\n' {
-            return at;
-        }
-        at += 1;
-    }
-    at
+    from + line_len(bytes, from)
 }

@@ -10,13 +10,11 @@ use lib.Dec.{ltb}
 use borrow.Author.Tests.{ltb-true, ltb-false, lt-ltb, le-ltb}
 use Rattle.wire.specs.Wire.{pick, be32_at}
 use Rattle.ddp.specs.Header.{tagged_bit, tagged_fields, untagged_fields, tagged_read, untagged_read, header_read}
-use Rattle.ddp.specs.declared.header.HeaderRead.{HeaderRead}
 use Rattle.segment_reader.specs.Field.{left_from, place_after, byte_field, be32_field, be64_field}
 use Rattle.segment_reader.specs.Header.{start_at, queue_at, start_of, queue_of, header_of}
-use Rattle.segment_reader.specs.declared.field.ByteField.TheVariants.{Value as ByteValue, End as ByteEnd}
-use Rattle.segment_reader.specs.declared.field.Be32Field.TheVariants.{Value as Be32Value, End as Be32End}
-use Rattle.segment_reader.specs.declared.header.Start.TheVariants.{Fields as StartFields, End as StartEnd}
-use Rattle.segment_reader.specs.declared.header.Queue.TheVariants.{Fields as QueueFields, End as QueueEnd}
+use Rattle.std.specs.Prelude.{None, Result, Some}
+use Rattle.ddp.specs.declared.header.Header.{Header}
+use Rattle.ddp.specs.declared.refusal.Refusal.{Refusal}
 
 -- where w bytes are left, the place after them is w on, and so many fewer are left there
 after : (l : List ℕ) (at w : ℕ) → w ≤ left_from l at → place_after l at w ≡ at + w
@@ -81,18 +79,18 @@ module _ (l : List ℕ) (at w₁ w₂ w₃ : ℕ) {A B C D : Type 0} (g : A → 
 
 pub start_turn : (l : List ℕ) (at : ℕ) → start_of (byte_field l at) (byte_field l (place_after l at 1)) (be32_field l (place_after l (place_after l at 1) 1)) ≡ start_at l at
 start_turn l at =
-    in_turn l at 1 1 4 start_of (λ p. ByteValue (get_or l p 0)) (λ p. ByteValue (get_or l p 0)) (λ p. Be32Value (be32_at l p)) ByteEnd ByteEnd Be32End StartEnd (λ y z. refl) (λ p z. refl) (λ p q. refl)
-    ∙ ap (λ (n : ℕ). pick (ltb (left_from l at) 6) StartEnd (StartFields (get_or l at 0) (get_or l (at + 1) 0) (be32_at l n))) (add_assoc at 1 1)
+    in_turn l at 1 1 4 start_of (λ p. Some (get_or l p 0)) (λ p. Some (get_or l p 0)) (λ p. Some (be32_at l p)) None None None None (λ y z. refl) (λ p z. refl) (λ p q. refl)
+    ∙ ap (λ (n : ℕ). pick (ltb (left_from l at) 6) None (Some (record { first = get_or l at 0; control = get_or l (at + 1) 0; stag = be32_at l n }))) (add_assoc at 1 1)
 
 pub queue_turn : (l : List ℕ) (at : ℕ) → queue_of (be32_field l at) (be32_field l (place_after l at 4)) (be32_field l (place_after l (place_after l at 4) 4)) ≡ queue_at l at
 queue_turn l at =
-    in_turn l at 4 4 4 queue_of (λ p. Be32Value (be32_at l p)) (λ p. Be32Value (be32_at l p)) (λ p. Be32Value (be32_at l p)) Be32End Be32End Be32End QueueEnd (λ y z. refl) (λ p z. refl) (λ p q. refl)
-    ∙ ap (λ (n : ℕ). pick (ltb (left_from l at) 12) QueueEnd (QueueFields (be32_at l at) (be32_at l (at + 4)) (be32_at l n))) (add_assoc at 4 4)
+    in_turn l at 4 4 4 queue_of (λ p. Some (be32_at l p)) (λ p. Some (be32_at l p)) (λ p. Some (be32_at l p)) None None None None (λ y z. refl) (λ p z. refl) (λ p q. refl)
+    ∙ ap (λ (n : ℕ). pick (ltb (left_from l at) 12) None (Some (record { qn = be32_at l at; msn = be32_at l (at + 4); mo = be32_at l n }))) (add_assoc at 4 4)
 
 -- The header of its fields is the header of the ULPDU.
 module _ (l : List ℕ) where
   -- what is read where the fields after the start stand at x
-  abbrev header_from : ℕ → HeaderRead
+  abbrev header_from : ℕ → Result Header Refusal
   header_from x = header_of (start_at l 0) (be64_field l x) (queue_at l x)
 
   no_start : (x : ℕ) → left_from l 0 < 6 → header_from x ≡ header_read l

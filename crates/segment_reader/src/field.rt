@@ -1,47 +1,21 @@
-// What stands at a place of a slice: a field, or the end, and the bytes that are left.
+// What stands at a place of a slice: a field, or none where too few bytes are left, and the bytes that are left.
 ghost use Rattle.std.specs.Prelude.{◌≡◌};
 ghost use Rattle.segment_reader.specs.Field.{byte_field, be32_field, be64_field, left_from, rest_from, place_after};
 
-// A field of one byte, or the end: no byte is left.
-#[derive(Drop)]
-pub enum ByteField {
-    Value(u8),
-    End,
-}
-
-// A field of four bytes, or the end: fewer are left.
-#[derive(Drop)]
-pub enum Be32Field {
-    Value(u32),
-    End,
-}
-
-// A field of eight bytes, or the end: fewer are left.
-#[derive(Drop)]
-pub enum Be64Field {
-    Value(u64),
-    End,
-}
+use wire::number::{get_be32, get_be64};
 
 // How many bytes are left from a place on: none past the end.
 pub fn left_at(s: &[u8], at: usize) -> usize
     ensures { result ≡ left_from s.now at }
 {
-    if s.len() < at {
-        return 0;
-    }
-    s.len() - at
+    s.len().saturating_sub(at)
 }
 
 // The bytes that are left from a place on.
 pub fn rest_at(s: &[u8], at: usize) -> &[u8]
     ensures { result.now ≡ rest_from s.now at }
 {
-    let n = s.len();
-    if n < at {
-        return &s[n..];
-    }
-    &s[at..]
+    &s[at.min(s.len())..]
 }
 
 // The place n bytes on, or the end where fewer are left.
@@ -55,31 +29,28 @@ pub fn place_after(s: &[u8], at: usize, n: usize) -> usize
 }
 
 // The byte at a place.
-pub fn byte_at(s: &[u8], at: usize) -> ByteField
+pub fn byte_at(s: &[u8], at: usize) -> Option<u8>
     ensures { result ≡ byte_field s.now at }
 {
-    if left_at(s, at) < 1 {
-        return ByteField::End;
-    }
-    ByteField::Value(s[at])
+    s.get(at).copied()
 }
 
 // The big-endian number in the four bytes from a place on.
-pub fn be32_at(s: &[u8], at: usize) -> Be32Field
+pub fn be32_at(s: &[u8], at: usize) -> Option<u32>
     ensures { result ≡ be32_field s.now at }
 {
     if left_at(s, at) < 4 {
-        return Be32Field::End;
+        return None;
     }
-    Be32Field::Value(wire::number::get_be32(s, at))
+    Some(get_be32(s, at))
 }
 
 // The big-endian number in the eight bytes from a place on.
-pub fn be64_at(s: &[u8], at: usize) -> Be64Field
+pub fn be64_at(s: &[u8], at: usize) -> Option<u64>
     ensures { result ≡ be64_field s.now at }
 {
     if left_at(s, at) < 8 {
-        return Be64Field::End;
+        return None;
     }
-    Be64Field::Value(wire::number::get_be64(s, at))
+    Some(get_be64(s, at))
 }

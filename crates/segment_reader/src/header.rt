@@ -12,29 +12,31 @@ ghost use Rattle.segment_reader.specs.Header.{
   header_of,
 };
 
-use crate::field::{Be32Field, Be64Field, ByteField, rest_at};
-use ddp::header::{HeaderRead, TaggedHeader, UntaggedHeader, is_last, is_tagged};
-use ddp::refusal::{SEGMENT_TOO_SHORT, TAGGED_VERSION, UNTAGGED_VERSION};
+use crate::field::rest_at;
+use ddp::header::{Header, TaggedHeader, UntaggedHeader, is_last, is_tagged, read_header};
+use ddp::refusal::{Refusal, SEGMENT_TOO_SHORT, TAGGED_VERSION, UNTAGGED_VERSION};
 
-// What both headers begin with, or the end: fewer than these six bytes are left.
+// What both headers begin with.
 #[derive(Drop)]
-pub enum Start {
-    Fields { first: u8, control: u8, stag: u32 },
-    End,
+pub struct Start {
+    pub first: u8,
+    pub control: u8,
+    pub stag: u32,
 }
 
-// What an untagged header goes on with, or the end: fewer than these twelve bytes are left.
+// What an untagged header goes on with.
 #[derive(Drop)]
-pub enum Queue {
-    Fields { qn: u32, msn: u32, mo: u32 },
-    End,
+pub struct Queue {
+    pub qn: u32,
+    pub msn: u32,
+    pub mo: u32,
 }
 
 // The header of the ULPDU that is left from a place on.
-pub fn header_at(s: &[u8], at: usize) -> HeaderRead
+pub fn header_at(s: &[u8], at: usize) -> Result<Header, Refusal>
     ensures { result ≡ header_read (rest_from s.now at) }
 {
-    ddp::header::read_header(rest_at(s, at))
+    read_header(rest_at(s, at))
 }
 
 // The payload of the ULPDU that is left from a place on: none where its header is refused.
@@ -42,101 +44,82 @@ pub fn payload_at(s: &[u8], at: usize) -> &[u8]
     ensures { result.now ≡ payload_of (rest_from s.now at) }
 {
     let ulpdu = rest_at(s, at);
-    match ddp::header::read_header(ulpdu) {
-        HeaderRead::Tagged(_) => rest_at(ulpdu, 14),
-        HeaderRead::Untagged(_) => rest_at(ulpdu, 18),
-        HeaderRead::Refused(_) => rest_at(ulpdu, ulpdu.len()),
+    match read_header(ulpdu) {
+        Ok(Header::Tagged(_)) => rest_at(ulpdu, 14),
+        Ok(Header::Untagged(_)) => rest_at(ulpdu, 18),
+        Err(_) => rest_at(ulpdu, ulpdu.len()),
     }
 }
 
-// What both headers begin with, of its fields.
-pub fn start_of(first: ByteField, control: ByteField, stag: Be32Field) -> Start
+// What both headers begin with, of its fields, none where one is missing.
+pub fn start_of(first: Option<u8>, control: Option<u8>, stag: Option<u32>) -> Option<Start>
     ensures { result ≡ start_of first control stag }
 {
-    let ByteField::Value(first) = first else {
-        return Start::End;
-    };
-    let ByteField::Value(control) = control else {
-        return Start::End;
-    };
-    let Be32Field::Value(stag) = stag else {
-        return Start::End;
-    };
-    Start::Fields {
-        first,
-        control,
-        stag,
-    }
+    Some(Start {
+        first: first?,
+        control: control?,
+        stag: stag?,
+    })
 }
 
-// What an untagged header goes on with, of its fields.
-pub fn queue_of(qn: Be32Field, msn: Be32Field, mo: Be32Field) -> Queue
+// What an untagged header goes on with, of its fields, none where one is missing.
+pub fn queue_of(qn: Option<u32>, msn: Option<u32>, mo: Option<u32>) -> Option<Queue>
     ensures { result ≡ queue_of qn msn mo }
 {
-    let Be32Field::Value(qn) = qn else {
-        return Queue::End;
-    };
-    let Be32Field::Value(msn) = msn else {
-        return Queue::End;
-    };
-    let Be32Field::Value(mo) = mo else {
-        return Queue::End;
-    };
-    Queue::Fields { qn, msn, mo }
+    Some(Queue {
+        qn: qn?,
+        msn: msn?,
+        mo: mo?,
+    })
 }
 
 // The tagged header of its fields.
-fn tagged_of(first: u8, control: u8, stag: u32, to: u64) -> HeaderRead
+fn tagged_of(first: u8, control: u8, stag: u32, to: u64) -> Result<Header, Refusal>
     ensures { result ≡ tagged_header_of first control stag to }
 {
-    if first % 4 == 1 {
-        let last = is_last(first);
-        return HeaderRead::Tagged(TaggedHeader {
-            last,
-            control,
-            stag,
-            to,
-        });
+    if first % 4 != 1 {
+        return Err(TAGGED_VERSION);
     }
-    HeaderRead::Refused(TAGGED_VERSION)
+    Ok(Header::Tagged(TaggedHeader {
+        last: is_last(first),
+        control,
+        stag,
+        to,
+    }))
 }
 
 // The untagged header of its fields.
-fn untagged_of(first: u8, control: u8, stag: u32, queue: Queue) -> HeaderRead
+fn untagged_of(first: u8, control: u8, stag: u32, queue: Option<Queue>) -> Result<Header, Refusal>
     ensures { result ≡ untagged_header_of first control stag queue }
 {
-    let Queue::Fields { qn, msn, mo } = queue else {
-        return HeaderRead::Refused(SEGMENT_TOO_SHORT);
-    };
-    if first % 4 == 1 {
-        let last = is_last(first);
-        return HeaderRead::Untagged(UntaggedHeader {
-            last,
-            control,
-            stag,
-            qn,
-            msn,
-            mo,
-        });
+    let Queue { qn, msn, mo } = queue.ok_or(SEGMENT_TOO_SHORT)?;
+    if first % 4 != 1 {
+        return Err(UNTAGGED_VERSION);
     }
-    HeaderRead::Refused(UNTAGGED_VERSION)
+    Ok(Header::Untagged(UntaggedHeader {
+        last: is_last(first),
+        control,
+        stag,
+        qn,
+        msn,
+        mo,
+    }))
 }
 
 // The header of its fields: T of the first byte says whether to or queue is what comes after the start.
-pub fn header_of(start: Start, to: Be64Field, queue: Queue) -> HeaderRead
+pub fn header_of(
+    start: Option<Start>,
+    to: Option<u64>,
+    queue: Option<Queue>,
+) -> Result<Header, Refusal>
     ensures { result ≡ header_of start to queue }
 {
-    let Start::Fields {
+    let Start {
         first,
         control,
         stag,
-    } = start
-    else {
-        return HeaderRead::Refused(SEGMENT_TOO_SHORT);
-    };
-    let Be64Field::Value(to) = to else {
-        return HeaderRead::Refused(SEGMENT_TOO_SHORT);
-    };
+    } = start.ok_or(SEGMENT_TOO_SHORT)?;
+    let to = to.ok_or(SEGMENT_TOO_SHORT)?;
     if is_tagged(first) {
         return tagged_of(first, control, stag, to);
     }

@@ -5,10 +5,11 @@ ghost use Rattle.ddp.specs.Header.{header_read};
 ghost use Rattle.segment_reader.specs.Field.{byte_field, be32_field, be64_field, left_from, rest_from, place_after};
 ghost use Rattle.segment_reader.specs.Header.{payload_of};
 
-use crate::field::{Be32Field, Be64Field, ByteField};
-use ddp::header::HeaderRead;
+use ddp::header::Header;
+use ddp::refusal::Refusal;
 
 // The bytes of a ULPDU, and the place of the next one to read.
+// Kept: the lent slice with a place beside it, by value; every function here is thin over one of `field` or `header`.
 #[derive(Clone, Copy)]
 pub struct SegmentReader<'a> {
     pub bytes: &'a [u8],
@@ -50,28 +51,28 @@ pub fn rest<'a>(r: SegmentReader<'a>) -> &'a [u8]
 }
 
 // The next byte.
-pub fn byte<'a>(r: SegmentReader<'a>) -> ByteField
+pub fn byte<'a>(r: SegmentReader<'a>) -> Option<u8>
     ensures { result ≡ byte_field r.entry.bytes.now r.entry.at }
 {
     crate::field::byte_at(r.bytes, r.at)
 }
 
 // The big-endian number in the next four bytes.
-pub fn be32<'a>(r: SegmentReader<'a>) -> Be32Field
+pub fn be32<'a>(r: SegmentReader<'a>) -> Option<u32>
     ensures { result ≡ be32_field r.entry.bytes.now r.entry.at }
 {
     crate::field::be32_at(r.bytes, r.at)
 }
 
 // The big-endian number in the next eight bytes.
-pub fn be64<'a>(r: SegmentReader<'a>) -> Be64Field
+pub fn be64<'a>(r: SegmentReader<'a>) -> Option<u64>
     ensures { result ≡ be64_field r.entry.bytes.now r.entry.at }
 {
     crate::field::be64_at(r.bytes, r.at)
 }
 
 // The header that the bytes left begin with.
-pub fn header<'a>(r: SegmentReader<'a>) -> HeaderRead
+pub fn header<'a>(r: SegmentReader<'a>) -> Result<Header, Refusal>
     ensures { result ≡ header_read (rest_from r.entry.bytes.now r.entry.at) }
 {
     crate::header::header_at(r.bytes, r.at)

@@ -6,10 +6,11 @@ ghost use Rattle.segment_reader.specs.Header.{start_at, queue_at, payload_of};
 
 use crate::header::{Queue, Start};
 use crate::reader::{SegmentReader, be32, be64, byte, new, payload, skipped};
-use ddp::header::HeaderRead;
+use ddp::header::Header;
+use ddp::refusal::Refusal;
 
 // What both headers begin with, its fields read in turn.
-pub fn start<'a>(r: SegmentReader<'a>) -> Start
+pub fn start<'a>(r: SegmentReader<'a>) -> Option<Start>
     ensures { result ≡ start_at r.entry.bytes.now r.entry.at }
 {
     let first = byte(r);
@@ -21,7 +22,7 @@ pub fn start<'a>(r: SegmentReader<'a>) -> Start
 }
 
 // What an untagged header goes on with, its fields read in turn.
-pub fn queue<'a>(r: SegmentReader<'a>) -> Queue
+pub fn queue<'a>(r: SegmentReader<'a>) -> Option<Queue>
     ensures { result ≡ queue_at r.entry.bytes.now r.entry.at }
 {
     let qn = be32(r);
@@ -33,7 +34,7 @@ pub fn queue<'a>(r: SegmentReader<'a>) -> Queue
 }
 
 // The header of a ULPDU, its fields read in turn.
-pub fn read_by_fields(ulpdu: &[u8]) -> HeaderRead
+pub fn read_by_fields(ulpdu: &[u8]) -> Result<Header, Refusal>
     ensures { result ≡ header_read ulpdu.now }
 {
     let r = new(ulpdu);

@@ -5,20 +5,20 @@ use Rattle.wire.specs.Wire.{both, put}
 use Rattle.wire.proofs.Laws.{put-start}
 use Rattle.sender.specs.Message.{room_of, left_of, is_last, segment_bytes, segment_size, advanced, lent_as, next_answer, message_after, next_of, next_out, segments_of}
 use Rattle.sender.specs.declared.Message.{Message}
-use Rattle.sender.specs.declared.Segment.{Segment}
-use Rattle.sender.specs.declared.Segment.TheVariants.{Wrote, Done, Refused}
-use Rattle.sender.specs.declared.Next.{Next}
 use Rattle.sender.proofs.Cuts.{Enough, none-enough, enough-bytes}
 use Rattle.sender.proofs.Writes.{refuses, ends, writes, answer_wrote}
 use Rattle.sender.proofs.Began.{Began, room-some}
 use Rattle.sender.proofs.Segments.{Lent, lent_began, advanced-done, advanced-len, advanced_limit, advanced-inside, advanced_lent, advanced-enough, segment_long, size_most, segments_done, segments_more}
+use Rattle.std.specs.Prelude.{Err, None, Ok, Option, Result, Some}
+use Rattle.wire.specs.declared.refusal.LocalRefusal.{LocalRefusal}
+use Rattle.wire.specs.declared.refusal.LocalRefusal.TheVariants.{NoRoom, OutOfRange}
 
 -- ---- one call
 
 -- the next segment, where there is room for it
 pub next_wrote :
     (m : Message) (bytes out : List ℕ) → Lent m bytes → m.done ≡ false → segment_size m ≤ length out →
-    (◌≡◌ {A = Next} (record { answer = Wrote (segment_size m); message = advanced m }) (next_of m (length bytes) (length out)))
+    (◌≡◌ {A = (Result (Option ℕ) LocalRefusal × Message)} (Ok (Some (segment_size m)), advanced m) (next_of m (length bytes) (length out)))
     × (put out 0 (segment_bytes m bytes) ≡ next_out m bytes out)
 next_wrote m bytes out l d h =
     writes m (advanced m) bytes out (put out 0 (segment_bytes m bytes)) (segment_size m) refl refl
@@ -27,57 +27,57 @@ next_wrote m bytes out l d h =
 -- 13 where there is not: the slice keeps its bytes, and the segment stays next
 pub next_short :
     (m : Message) (bytes out : List ℕ) → Lent m bytes → m.done ≡ false → length out < segment_size m →
-    (◌≡◌ {A = Next} (record { answer = Refused 13; message = m }) (next_of m (length bytes) (length out))) × (out ≡ next_out m bytes out)
+    (◌≡◌ {A = (Result (Option ℕ) LocalRefusal × Message)} (Err NoRoom, m) (next_of m (length bytes) (length out))) × (out ≡ next_out m bytes out)
 unfolding next_answer
-next_short m bytes out l d h = refuses m bytes out 13 (simp (eq-eqb _ _ l.0, le-leb _ _ l.1, d, lt-leb _ _ h))
+next_short m bytes out l d h = refuses m bytes out NoRoom (simp (eq-eqb _ _ l.0, le-leb _ _ l.1, d, lt-leb _ _ h))
 
 -- none after the last
 pub next-done :
     (m : Message) (bytes out : List ℕ) → Lent m bytes → m.done ≡ true →
-    (◌≡◌ {A = Next} (record { answer = Done; message = m }) (next_of m (length bytes) (length out))) × (out ≡ next_out m bytes out)
+    (◌≡◌ {A = (Result (Option ℕ) LocalRefusal × Message)} (Ok None, m) (next_of m (length bytes) (length out))) × (out ≡ next_out m bytes out)
 unfolding next_answer
 next-done m bytes out l d = ends m bytes out (simp (eq-eqb _ _ l.0, le-leb _ _ l.1, d))
 
 -- 1 where the message lent is not as long as the one begun
 pub next_other :
     (m : Message) (bytes out : List ℕ) → (length bytes ≡ m.len → ⊥) →
-    (◌≡◌ {A = Next} (record { answer = Refused 1; message = m }) (next_of m (length bytes) (length out))) × (out ≡ next_out m bytes out)
+    (◌≡◌ {A = (Result (Option ℕ) LocalRefusal × Message)} (Err OutOfRange, m) (next_of m (length bytes) (length out))) × (out ≡ next_out m bytes out)
 unfolding next_answer
-next_other m bytes out h = refuses m bytes out 1 (simp (ne_eqb _ _ h))
+next_other m bytes out h = refuses m bytes out OutOfRange (simp (ne_eqb _ _ h))
 
 -- ---- any calls: lent messages and slices of any lengths
 
 -- the message that n calls leave
 abbrev pub later : ℕ → Message → (ℕ → ℕ) → (ℕ → ℕ) → Message
 later zero m lent rooms = m
-later (suc n) m lent rooms = later n (next_of m (lent 0) (rooms 0)).message (λ i. lent (suc i)) (λ i. rooms (suc i))
+later (suc n) m lent rooms = later n (next_of m (lent 0) (rooms 0)).1 (λ i. lent (suc i)) (λ i. rooms (suc i))
 
 -- no more is written than there is: one call, and so any number of them
-after-inside : (m : Message) (a : Segment) → m.at ≤ m.len → (message_after m a).at ≤ (message_after m a).len
-after-inside m (Wrote n) h = advanced-inside m h
-after-inside m Done h = h
-after-inside m (Refused n) h = h
+after-inside : (m : Message) (a : Result (Option ℕ) LocalRefusal) → m.at ≤ m.len → (message_after m a).at ≤ (message_after m a).len
+after-inside m (Ok (Some n)) h = advanced-inside m h
+after-inside m (Ok None) h = h
+after-inside m (Err n) h = h
 
-pub next-inside : (m : Message) (size room : ℕ) → m.at ≤ m.len → (next_of m size room).message.at ≤ (next_of m size room).message.len
+pub next-inside : (m : Message) (size room : ℕ) → m.at ≤ m.len → (next_of m size room).1.at ≤ (next_of m size room).1.len
 unfolding next_of
 next-inside m size room h = after-inside m (next_answer m size room) h
 
 pub later-inside : (n : ℕ) (m : Message) (lent rooms : ℕ → ℕ) → m.at ≤ m.len → (later n m lent rooms).at ≤ (later n m lent rooms).len
 later-inside zero m lent rooms h = h
 later-inside (suc n) m lent rooms h =
-    later-inside n (next_of m (lent 0) (rooms 0)).message (λ i. lent (suc i)) (λ i. rooms (suc i)) (next-inside m (lent 0) (rooms 0) h)
+    later-inside n (next_of m (lent 0) (rooms 0)).1 (λ i. lent (suc i)) (λ i. rooms (suc i)) (next-inside m (lent 0) (rooms 0) h)
 
 -- and it is as long as it was
-after-len : (m : Message) (a : Segment) → (message_after m a).len ≡ m.len
-after-len m (Wrote n) = advanced-len m
-after-len m Done = refl
-after-len m (Refused n) = refl
+after-len : (m : Message) (a : Result (Option ℕ) LocalRefusal) → (message_after m a).len ≡ m.len
+after-len m (Ok (Some n)) = advanced-len m
+after-len m (Ok None) = refl
+after-len m (Err n) = refl
 
 pub later-len : (n : ℕ) (m : Message) (lent rooms : ℕ → ℕ) → (later n m lent rooms).len ≡ m.len
 unfolding next_of
 later-len zero m lent rooms = refl
 later-len (suc n) m lent rooms =
-    later-len n (next_of m (lent 0) (rooms 0)).message (λ i. lent (suc i)) (λ i. rooms (suc i))
+    later-len n (next_of m (lent 0) (rooms 0)).1 (λ i. lent (suc i)) (λ i. rooms (suc i))
     ∙ after-len m (next_answer m (lent 0) (rooms 0))
 
 -- so a message that was begun is refused with 1 for another length alone
@@ -94,17 +94,17 @@ began_lent n m lent rooms size b =
 -- ---- the calls that write it: the message's bytes, and slices of at least the limit
 
 -- what a call's answer says is written
-abbrev pub told : Segment → List ℕ → List (List ℕ)
-told (Wrote n) out = take n out ∷ []
-told Done out = []
-told (Refused k) out = []
+abbrev pub told : Result (Option ℕ) LocalRefusal → List ℕ → List (List ℕ)
+told (Ok (Some n)) out = take n out ∷ []
+told (Ok None) out = []
+told (Err k) out = []
 
 -- what n calls write, the i-th lent the i-th slice
 abbrev pub asked : ℕ → Message → List ℕ → (ℕ → List ℕ) → List (List ℕ)
 asked zero m bytes outs = []
 asked (suc n) m bytes outs =
-    told (next_of m (length bytes) (length (outs 0))).answer (next_out m bytes (outs 0))
-    ++ asked n (next_of m (length bytes) (length (outs 0))).message bytes (λ i. outs (suc i))
+    told (next_of m (length bytes) (length (outs 0))).0 (next_out m bytes (outs 0))
+    ++ asked n (next_of m (length bytes) (length (outs 0))).1 bytes (λ i. outs (suc i))
 
 -- the message that they leave
 abbrev pub left : ℕ → Message → List ℕ → (ℕ → List ℕ) → Message
@@ -133,7 +133,7 @@ asked_segments (suc n) m bytes outs l r w =
         (Lent (advanced m) bytes → 19 ≤ (advanced m).limit → Wide (advanced m) (λ i. outs (suc i)) → asked n (advanced m) bytes (λ i. outs (suc i)) ≡ segments_of n (advanced m) bytes) →
         (t : Bool) → m.done ≡ t → asked (suc n) m bytes outs ≡ segments_of (suc n) m bytes
     go stays more true d =
-        ap (λ (x : Next). told x.answer (next_out m bytes (outs 0)) ++ asked n x.message bytes (λ i. outs (suc i))) (sym (next-done m bytes (outs 0) l d).0)
+        ap (λ (x : Result (Option ℕ) LocalRefusal × Message). told x.0 (next_out m bytes (outs 0)) ++ asked n x.1 bytes (λ i. outs (suc i))) (sym (next-done m bytes (outs 0) l d).0)
         ∙ stays
         ∙ segments_done n m bytes d
         ∙ sym (segments_done (suc n) m bytes d)
@@ -142,7 +142,7 @@ asked_segments (suc n) m bytes outs l r w =
         let rest : asked n (advanced m) bytes (λ i. outs (suc i)) ≡ segments_of n (advanced m) bytes =
         more (advanced_lent m bytes l) (omega (arith, advanced_limit m, r)) (λ i. omega (arith, advanced_limit m, w (suc i)))
         in
-        ap₂ (λ (x : Next) (o : List ℕ). told x.answer o ++ asked n x.message bytes (λ i. outs (suc i))) (sym one.0) (sym one.1)
+        ap₂ (λ (x : Result (Option ℕ) LocalRefusal × Message) (o : List ℕ). told x.0 o ++ asked n x.1 bytes (λ i. outs (suc i))) (sym one.0) (sym one.1)
         ∙ ap₂ (λ (s : List ℕ) (r : List (List ℕ)). s ∷ r) (put-told m bytes (outs 0) l) rest
         ∙ sym (segments_more n m bytes d)
 
@@ -150,7 +150,7 @@ asked_segments (suc n) m bytes outs l r w =
 pub done_stays : (n : ℕ) (m : Message) (bytes : List ℕ) (outs : ℕ → List ℕ) → Lent m bytes → m.done ≡ true → left n m bytes outs ≡ m
 done_stays zero m bytes outs l d = refl
 done_stays (suc n) m bytes outs l d =
-    ap (λ (x : Next). left n x.message bytes (λ i. outs (suc i))) (sym (next-done m bytes (outs 0) l d).0)
+    ap (λ (x : Result (Option ℕ) LocalRefusal × Message). left n x.1 bytes (λ i. outs (suc i))) (sym (next-done m bytes (outs 0) l d).0)
     ∙ done_stays n m bytes (λ i. outs (suc i)) l d
 
 -- and enough calls write it
@@ -162,7 +162,7 @@ calls_end (suc n) m bytes outs l r w d h =
     go (λ a b c e k. calls_end n (advanced m) bytes (λ i. outs (suc i)) a b c e k) (is_last m) refl
   where
     first : left (suc n) m bytes outs ≡ left n (advanced m) bytes (λ i. outs (suc i))
-    first = ap (λ (x : Next). left n x.message bytes (λ i. outs (suc i))) (sym (next_wrote m bytes (outs 0) l d (omega (arith, size_most m r, w 0))).0)
+    first = ap (λ (x : Result (Option ℕ) LocalRefusal × Message). left n x.1 bytes (λ i. outs (suc i))) (sym (next_wrote m bytes (outs 0) l d (omega (arith, size_most m r, w 0))).0)
 
     go :
         (Lent (advanced m) bytes → 19 ≤ (advanced m).limit → Wide (advanced m) (λ i. outs (suc i)) → (advanced m).done ≡ false → Enough n (room_of (advanced m)) (left_of (advanced m)) →
@@ -188,17 +188,17 @@ began_asked n m bytes outs b e w = asked_segments n m bytes outs (lent_began m b
 pub left_lent : (n : ℕ) (m : Message) (bytes : List ℕ) (outs : ℕ → List ℕ) → Lent m bytes → Lent (left n m bytes outs) bytes
 unfolding next_of
 left_lent zero m bytes outs l = l
-left_lent (suc n) m bytes outs l = left_lent n (next_of m (length bytes) (length (outs 0))).message bytes (λ i. outs (suc i)) (one (next_answer m (length bytes) (length (outs 0))))
+left_lent (suc n) m bytes outs l = left_lent n (next_of m (length bytes) (length (outs 0))).1 bytes (λ i. outs (suc i)) (one (next_answer m (length bytes) (length (outs 0))))
   where
-    one : (a : Segment) → Lent (message_after m a) bytes
-    one (Wrote k) = advanced_lent m bytes l
-    one Done = l
-    one (Refused k) = l
+    one : (a : Result (Option ℕ) LocalRefusal) → Lent (message_after m a) bytes
+    one (Ok (Some k)) = advanced_lent m bytes l
+    one (Ok None) = l
+    one (Err k) = l
 
 -- more calls than it has bytes write all of them, and after them every call says that there is none and leaves its slice alone
 pub began_done :
     (n : ℕ) (m : Message) (bytes : List ℕ) (outs : ℕ → List ℕ) (out : List ℕ) → Began m → length bytes ≡ m.len → Wide m outs → m.len < n →
-    (◌≡◌ {A = Next} (record { answer = Done; message = left n m bytes outs }) (next_of (left n m bytes outs) (length bytes) (length out)))
+    (◌≡◌ {A = (Result (Option ℕ) LocalRefusal × Message)} (Ok None, left n m bytes outs) (next_of (left n m bytes outs) (length bytes) (length out)))
     × (out ≡ next_out (left n m bytes outs) bytes out)
 began_done n m bytes outs out b e w h =
     let l : Lent m bytes = lent_began m bytes b e in

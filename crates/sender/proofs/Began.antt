@@ -6,8 +6,9 @@ use Rattle.memory.specs.Window.{wraps}
 use Rattle.rdmap.specs.Message.{is_send}
 use Rattle.sender.specs.Message.{max32, sized, stag_held, write_begun, send_begun, header_size, room_of}
 use Rattle.sender.specs.declared.Message.{Message}
-use Rattle.sender.specs.declared.Begun.TheVariants.{Ready, Refused}
-use Rattle.sender.proofs.Writes.{write-true, send-true}
+use Rattle.sender.proofs.Writes.{write_true, send_true}
+use Rattle.std.specs.Prelude.{Err, Ok}
+use Rattle.wire.specs.declared.refusal.LocalRefusal.TheVariants.{OutOfRange, OverLimit}
 
 -- the records that messages are begun with
 abbrev pub write_of : ℕ → ℕ → ℕ → ℕ → Message
@@ -18,40 +19,40 @@ send_of limit opcode msn stag len =
     record { tagged = false; opcode = opcode; stag = stag_held opcode stag; to = 0; msn = msn; limit = limit; len = len; at = 0; done = false }
 
 -- an answer by two tests that is Ready: both hold, and it is the message
-ready : (a b : Bool) (n m : Message) → pick a (pick b (Ready n) (Refused 12)) (Refused 1) ≡ Ready m → (a ≡ true) × (b ≡ true) × (m ≡ n)
+ready : (a b : Bool) (n m : Message) → pick a (pick b (Ok n) (Err OverLimit)) (Err OutOfRange) ≡ Ok m → (a ≡ true) × (b ≡ true) × (m ≡ n)
 ready true true n m e = (refl, refl, cc)
 ready true false n m e = let z : false ≡ true = cc in (refl, z, cc)
 ready false b n m e = let z : false ≡ true = cc in (z, cc, cc)
 
 pub write-ready :
-    (limit stag to len : ℕ) (m : Message) → write_begun limit stag to len ≡ Ready m →
+    (limit stag to len : ℕ) (m : Message) → write_begun limit stag to len ≡ Ok m →
     (m ≡ write_of limit stag to len) × (19 ≤ limit) × (limit ≤ max_ulpdu) × (len ≤ max32) × (stag ≤ max32) × (to + len ≤ 18446744073709551616)
 unfolding write_begun wraps
 write-ready limit stag to len m e =
     let r = ready (both (sized limit len) (both (leb stag max32) (not (wraps to len)))) (leb limit max_ulpdu) (write_of limit stag to len) m e in
-    let t = write-true limit stag to len r.0 in
+    let t = write_true limit stag to len r.0 in
     (r.2, t.0, leb-true limit max_ulpdu r.1, t.1, t.2, ltb-false 18446744073709551616 (to + len) t.3)
 
 pub send-ready :
-    (limit opcode msn stag len : ℕ) (m : Message) → send_begun limit opcode msn stag len ≡ Ready m →
+    (limit opcode msn stag len : ℕ) (m : Message) → send_begun limit opcode msn stag len ≡ Ok m →
     (m ≡ send_of limit opcode msn stag len) × (19 ≤ limit) × (limit ≤ max_ulpdu) × (len ≤ max32) × (3 ≤ opcode) × (opcode ≤ 6) × (msn ≤ max32) × (stag_held opcode stag ≤ max32)
 unfolding send_begun
 send-ready limit opcode msn stag len m e =
     let r = ready (both (sized limit len) (both (is_send opcode) (both (leb msn max32) (leb (stag_held opcode stag) max32)))) (leb limit max_ulpdu) (send_of limit opcode msn stag len) m e in
-    let t = send-true limit opcode msn (stag_held opcode stag) len r.0 in
+    let t = send_true limit opcode msn (stag_held opcode stag) len r.0 in
     (r.2, t.0, leb-true limit max_ulpdu r.1, t.1, t.2, t.3, t.4, t.5)
 
 -- what both have: a limit in its range, and nothing written
 abbrev pub Began : Message → Type 0
 Began m = (19 ≤ m.limit) × (m.limit ≤ max_ulpdu) × (m.at ≡ 0) × (m.done ≡ false)
 
-pub write_began : (limit stag to len : ℕ) (m : Message) → write_begun limit stag to len ≡ Ready m → Began m
+pub write_began : (limit stag to len : ℕ) (m : Message) → write_begun limit stag to len ≡ Ok m → Began m
 write_began limit stag to len m e =
     let r = write-ready limit stag to len m e in
     let l : m.limit ≡ limit = ap (λ (x : Message). x.limit) r.0 in
     (omega (arith, l, r.1), omega (arith, l, r.2), ap (λ (x : Message). x.at) r.0, ap (λ (x : Message). x.done) r.0)
 
-pub send_began : (limit opcode msn stag len : ℕ) (m : Message) → send_begun limit opcode msn stag len ≡ Ready m → Began m
+pub send_began : (limit opcode msn stag len : ℕ) (m : Message) → send_begun limit opcode msn stag len ≡ Ok m → Began m
 send_began limit opcode msn stag len m e =
     let r = send-ready limit opcode msn stag len m e in
     let l : m.limit ≡ limit = ap (λ (x : Message). x.limit) r.0 in

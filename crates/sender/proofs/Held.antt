@@ -1,10 +1,10 @@
 -- A message in range is read back from its words, and so is the one after a segment.
 use Rattle.std.proofs.Common.{◌≡◌, ℕ, ◌%◌, ◌<◌, Bool, true, false, refl, arith}
 use Rattle.sender.specs.declared.Message.{Message}
-use Rattle.sender.specs.declared.Segment.{Segment}
-use Rattle.sender.specs.declared.Segment.TheVariants.{Wrote, Done, Refused}
 use Rattle.sender.specs.Message.{next_of, next_answer}
 use Rattle.sender.specs.Words.{flag_word, flag_in, lower_half, message_at, message_words, message_then}
+use Rattle.std.specs.Prelude.{Err, None, Ok, Option, Result, Some}
+use Rattle.wire.specs.declared.refusal.LocalRefusal.{LocalRefusal}
 
 flag_back : (b : Bool) → flag_in (flag_word b) ≡ b
 flag_back true = refl
@@ -27,11 +27,11 @@ message_back m ho hs hm hl hn ha =
     λ i. record { tagged = tagged i; opcode = opcode i; stag = stag i; to = m.to; msn = msn i; limit = limit i; len = len i; at = at i; done = done i }
 
 -- the message that the words hold after asking for the next segment is the one that is next
-pub message-next : (m : Message) (size room : ℕ) → message_then m (next_of m size room).message (next_of m size room).answer ≡ (next_of m size room).message
+pub message_next : (m : Message) (size room : ℕ) → message_then m (next_of m size room).1 (next_of m size room).0 ≡ (next_of m size room).1
 unfolding next_of
-message-next m size room = go (next_answer m size room) refl
+message_next m size room = go (next_answer m size room) refl
   where
-    go : (a : Segment) → next_answer m size room ≡ a → message_then m (next_of m size room).message (next_of m size room).answer ≡ (next_of m size room).message
-    go (Wrote n) e = simp e
-    go Done e = simp e
-    go (Refused n) e = simp e
+    go : (a : Result (Option ℕ) LocalRefusal) → next_answer m size room ≡ a → message_then m (next_of m size room).1 (next_of m size room).0 ≡ (next_of m size room).1
+    go (Ok (Some n)) e = simp e
+    go (Ok None) e = simp e
+    go (Err n) e = simp e

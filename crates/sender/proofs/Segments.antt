@@ -7,10 +7,10 @@ use Rattle.ddp.specs.Header.{last_bit, control_of, start_bytes, tagged_bytes, un
 use Rattle.sender.specs.Cut.{ends_in, piece_of, pieces}
 use Rattle.sender.specs.Message.{header_size, room_of, left_of, payload_size, is_last, header_bytes, segment_bytes, segment_size, advanced, send_begun, segments_of}
 use Rattle.sender.specs.declared.Message.{Message}
-use Rattle.sender.specs.declared.Begun.TheVariants.{Ready}
 use Rattle.sender.proofs.Cuts.{Enough, none-enough, enough-next, enough-bytes, pieces-last, pieces_more, piece_left, piece_room, piece_last, piece_full, ends-false, pieces_count}
 use Rattle.sender.proofs.Writes.{tagged_is, untagged_is, length_header}
 use Rattle.sender.proofs.Began.{Began, write_of, send_of, header_most, room-some}
+use Rattle.std.specs.Prelude.{Ok}
 
 -- ---- one segment
 
@@ -360,7 +360,7 @@ module _ (most : ℕ) (m : Message) (bytes : List ℕ) (b : Began m) (e : length
 
 -- ---- 2,048 bytes of a Send at 1,500 bytes a segment
 
-pub example_begun : send_begun 1500 3 1 0 2048 ≡ Ready (send_of 1500 3 1 0 2048)
+pub example_begun : send_begun 1500 3 1 0 2048 ≡ Ok (send_of 1500 3 1 0 2048)
 unfolding send_begun
 example_begun = refl
 

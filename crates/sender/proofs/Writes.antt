@@ -11,9 +11,8 @@ use Rattle.ddp.specs.declared.header.UntaggedHeader.{UntaggedHeader}
 use Rattle.rdmap.specs.Message.{is_send}
 use Rattle.sender.specs.Message.{max32, sized, header_size, payload_size, is_last, control_byte, header_bytes, segment_bytes, segment_size, advanced, next_answer, message_after, out_after, next_of, next_out}
 use Rattle.sender.specs.declared.Message.{Message}
-use Rattle.sender.specs.declared.Segment.{Segment}
-use Rattle.sender.specs.declared.Segment.TheVariants.{Wrote, Done, Refused}
-use Rattle.sender.specs.declared.Next.{Next}
+use Rattle.std.specs.Prelude.{Err, None, Ok, Option, Result, Some}
+use Rattle.wire.specs.declared.refusal.LocalRefusal.{LocalRefusal}
 
 -- ---- what is in range
 
@@ -22,19 +21,19 @@ sized-true limit len e =
     let b = both_true (leb 19 limit) (leb len max32) e in
     (leb-true _ _ b.0, leb-true _ _ b.1)
 
-pub write-true :
+pub write_true :
     (limit stag to len : ℕ) → both (sized limit len) (both (leb stag max32) (not (wraps to len))) ≡ true →
     (19 ≤ limit) × (len ≤ max32) × (stag ≤ max32) × (wraps to len ≡ false)
-write-true limit stag to len e =
+write_true limit stag to len e =
     let b = both_true (sized limit len) (both (leb stag max32) (not (wraps to len))) e in
     let d = both_true (leb stag max32) (not (wraps to len)) b.1 in
     let s = sized-true limit len b.0 in
     (s.0, s.1, leb-true _ _ d.0, not-true _ d.1)
 
-pub send-true :
+pub send_true :
     (limit opcode msn held len : ℕ) → both (sized limit len) (both (is_send opcode) (both (leb msn max32) (leb held max32))) ≡ true →
     (19 ≤ limit) × (len ≤ max32) × (3 ≤ opcode) × (opcode ≤ 6) × (msn ≤ max32) × (held ≤ max32)
-send-true limit opcode msn held len e =
+send_true limit opcode msn held len e =
     let b = both_true (sized limit len) (both (is_send opcode) (both (leb msn max32) (leb held max32))) e in
     let d = both_true (is_send opcode) (both (leb msn max32) (leb held max32)) b.1 in
     let f = both_true (leb msn max32) (leb held max32) d.1 in
@@ -109,33 +108,33 @@ segment_put m message out header payload h p =
 -- the tests that lead to the next segment
 pub answer_wrote :
     (m : Message) (size room n : ℕ) → size ≡ m.len → m.at ≤ m.len → m.done ≡ false → n ≡ segment_size m → n ≤ room →
-    Wrote n ≡ next_answer m size room
+    Ok (Some n) ≡ next_answer m size room
 unfolding next_answer
 answer_wrote m size room n s a d e h =
     let k : segment_size m ≤ room = omega (arith, e, h) in
-    ap Wrote e ∙ simp (eq-eqb _ _ s, le-leb _ _ a, d, le-leb _ _ k)
+    ap (λ (k : ℕ). Ok (Some k)) e ∙ simp (eq-eqb _ _ s, le-leb _ _ a, d, le-leb _ _ k)
 
 -- what is answered, with the message and the slice that it leaves
 pub refuses :
-    (m : Message) (message out : List ℕ) (k : ℕ) → Refused k ≡ next_answer m (length message) (length out) →
-    (◌≡◌ {A = Next} (record { answer = Refused k; message = m }) (next_of m (length message) (length out))) × (out ≡ next_out m message out)
+    (m : Message) (message out : List ℕ) (k : LocalRefusal) → Err k ≡ next_answer m (length message) (length out) →
+    (◌≡◌ {A = (Result (Option ℕ) LocalRefusal × Message)} (Err k, m) (next_of m (length message) (length out))) × (out ≡ next_out m message out)
 unfolding next_of next_out
 refuses m message out k e =
-    (ap (λ (v : Segment). record { answer = v; message = message_after m v }) e, ap (λ (v : Segment). out_after m message out v) e)
+    (ap (λ (v : Result (Option ℕ) LocalRefusal). (v, message_after m v)) e, ap (λ (v : Result (Option ℕ) LocalRefusal). out_after m message out v) e)
 
 pub ends :
-    (m : Message) (message out : List ℕ) → Done ≡ next_answer m (length message) (length out) →
-    (◌≡◌ {A = Next} (record { answer = Done; message = m }) (next_of m (length message) (length out))) × (out ≡ next_out m message out)
+    (m : Message) (message out : List ℕ) → (Ok None) ≡ next_answer m (length message) (length out) →
+    (◌≡◌ {A = (Result (Option ℕ) LocalRefusal × Message)} (Ok None, m) (next_of m (length message) (length out))) × (out ≡ next_out m message out)
 unfolding next_of next_out
 ends m message out e =
-    (ap (λ (v : Segment). record { answer = v; message = message_after m v }) e, ap (λ (v : Segment). out_after m message out v) e)
+    (ap (λ (v : Result (Option ℕ) LocalRefusal). (v, message_after m v)) e, ap (λ (v : Result (Option ℕ) LocalRefusal). out_after m message out v) e)
 
 pub writes :
     (m then : Message) (message out last : List ℕ) (n : ℕ) → then ≡ advanced m → last ≡ put out 0 (segment_bytes m message) →
-    Wrote n ≡ next_answer m (length message) (length out) →
-    (◌≡◌ {A = Next} (record { answer = Wrote n; message = then }) (next_of m (length message) (length out))) × (last ≡ next_out m message out)
+    Ok (Some n) ≡ next_answer m (length message) (length out) →
+    (◌≡◌ {A = (Result (Option ℕ) LocalRefusal × Message)} (Ok (Some n), then) (next_of m (length message) (length out))) × (last ≡ next_out m message out)
 unfolding next_of next_out
 writes m then message out last n a l e = (
-  ap (λ (x : Message). record { answer = Wrote n; message = x }) a ∙ ap (λ (v : Segment). record { answer = v; message = message_after m v }) e,
-  l ∙ ap (λ (v : Segment). out_after m message out v) e,
+  ap (λ (x : Message). (Ok (Some n), x)) a ∙ ap (λ (v : Result (Option ℕ) LocalRefusal). (v, message_after m v)) e,
+  l ∙ ap (λ (v : Result (Option ℕ) LocalRefusal). out_after m message out v) e,
 )

@@ -7,11 +7,9 @@ use Rattle.ddp.specs.Header.{tagged_bytes, untagged_bytes}
 use Rattle.rdmap.specs.Message.{is_send, takes_stag}
 use Rattle.sender.specs.Cut.{piece_of, ends_in}
 use Rattle.sender.specs.declared.Message.{Message}
-use Rattle.sender.specs.declared.Begun.{Begun}
-use Rattle.sender.specs.declared.Begun.TheVariants.{Ready, Refused as NotBegun}
-use Rattle.sender.specs.declared.Segment.{Segment}
-use Rattle.sender.specs.declared.Segment.TheVariants.{Wrote, Done, Refused}
-use Rattle.sender.specs.declared.Next.{Next}
+use Rattle.std.specs.Prelude.{Err, None, Ok, Option, Result, Some}
+use Rattle.wire.specs.declared.refusal.LocalRefusal.{LocalRefusal}
+use Rattle.wire.specs.declared.refusal.LocalRefusal.TheVariants.{NoRoom, OutOfRange, OverLimit}
 
 abbrev pub max32 : ℕ
 max32 = 4294967295
@@ -23,25 +21,25 @@ abbrev pub sized : ℕ → ℕ → Bool
 sized limit len = both (nat_le 19 limit) (nat_le len max32)
 
 -- 12 "a size above the limit", asked last
-abbrev pub begun : ℕ → Message → Begun
-begun limit m = pick (nat_le limit max_ulpdu) (Ready m) (NotBegun 12)
+abbrev pub begun : ℕ → Message → Result Message LocalRefusal
+begun limit m = pick (nat_le limit max_ulpdu) (Ok m) (Err OverLimit)
 
 -- a Write: 1 also "a Write whose end passes 2^64", and an STag that its field cannot hold
-unfoldable pub write_begun : ℕ → ℕ → ℕ → ℕ → Begun
+unfoldable pub write_begun : ℕ → ℕ → ℕ → ℕ → Result Message LocalRefusal
 write_begun limit stag to len =
     pick (both (sized limit len) (both (nat_le stag max32) (not (wraps to len))))
     (begun limit (record { tagged = true; opcode = 0; stag = stag; to = to; msn = 0; limit = limit; len = len; at = 0; done = false }))
-    (NotBegun 1)
+    (Err OutOfRange)
 
 -- a Send: 1 also an opcode that is no Send's, and an MSN or an STag to invalidate that its field cannot hold. The STag of one without Invalidate is not looked at, and written 0
 abbrev pub stag_held : ℕ → ℕ → ℕ
 stag_held opcode stag = pick (takes_stag opcode) stag 0
 
-unfoldable pub send_begun : ℕ → ℕ → ℕ → ℕ → ℕ → Begun
+unfoldable pub send_begun : ℕ → ℕ → ℕ → ℕ → ℕ → Result Message LocalRefusal
 send_begun limit opcode msn stag len =
     pick (both (sized limit len) (both (is_send opcode) (both (nat_le msn max32) (nat_le (stag_held opcode stag) max32))))
     (begun limit (record { tagged = false; opcode = opcode; stag = stag_held opcode stag; to = 0; msn = msn; limit = limit; len = len; at = 0; done = false }))
-    (NotBegun 1)
+    (Err OutOfRange)
 
 -- ---- one segment
 
@@ -99,25 +97,25 @@ abbrev pub lent_as : Message → ℕ → Bool
 lent_as m size = both (size == m.len) (nat_le m.at m.len)
 
 -- asking for the next segment, lent a message of size bytes and room bytes for the output: 1 another length than the one begun; done after the last; 13 the slice is too small
-unfoldable pub next_answer : Message → ℕ → ℕ → Segment
+unfoldable pub next_answer : Message → ℕ → ℕ → Result (Option ℕ) LocalRefusal
 next_answer m size room =
     pick (lent_as m size)
-    (pick m.done Done (pick (nat_le (segment_size m) room) (Wrote (segment_size m)) (Refused 13)))
-    (Refused 1)
+    (pick m.done (Ok None) (pick (nat_le (segment_size m) room) (Ok (Some (segment_size m))) (Err NoRoom)))
+    (Err OutOfRange)
 
 -- what an answer makes of the message, and of the slice: "it keeps its bytes, and the segment stays next"
-abbrev pub message_after : Message → Segment → Message
-message_after m (Wrote n) = advanced m
-message_after m Done = m
-message_after m (Refused n) = m
+abbrev pub message_after : Message → Result (Option ℕ) LocalRefusal → Message
+message_after m (Ok (Some n)) = advanced m
+message_after m (Ok None) = m
+message_after m (Err n) = m
 
-abbrev pub out_after : Message → List ℕ → List ℕ → Segment → List ℕ
-out_after m message out (Wrote n) = put out 0 (segment_bytes m message)
-out_after m message out Done = out
-out_after m message out (Refused n) = out
+abbrev pub out_after : Message → List ℕ → List ℕ → Result (Option ℕ) LocalRefusal → List ℕ
+out_after m message out (Ok (Some n)) = put out 0 (segment_bytes m message)
+out_after m message out (Ok None) = out
+out_after m message out (Err n) = out
 
-unfoldable pub next_of : Message → ℕ → ℕ → Next
-next_of m size room = record { answer = next_answer m size room; message = message_after m (next_answer m size room) }
+unfoldable pub next_of : Message → ℕ → ℕ → (Result (Option ℕ) LocalRefusal × Message)
+next_of m size room = (next_answer m size room, message_after m (next_answer m size room))
 
 unfoldable pub next_out : Message → List ℕ → List ℕ → List ℕ
 next_out m message out = out_after m message out (next_answer m (length message) (length out))

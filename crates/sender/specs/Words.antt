@@ -1,11 +1,9 @@
 -- A message under way in nine words that a caller holds, one for each field. Any words are a message: a number is taken at its field's width.
 use Rattle.std.specs.Prelude.{ℕ, ◌%◌, Bool, true, false, List, [], ◌∷◌, ◌==◌, slice_index}
 use Rattle.sender.specs.declared.Message.{Message}
-use Rattle.sender.specs.declared.Begun.{Begun}
-use Rattle.sender.specs.declared.Begun.TheVariants.{Ready, Refused as NotBegun}
-use Rattle.sender.specs.declared.Segment.{Segment}
-use Rattle.sender.specs.declared.Segment.TheVariants.{Wrote, Done, Refused}
-use Rattle.sender.specs.declared.Next.{Next}
+use Rattle.std.specs.Prelude.{Err, None, Ok, Option, Result, Some}
+use Rattle.wire.specs.declared.refusal.LocalRefusal.{LocalRefusal}
+use Rattle.wire.specs.Refusal.{refusal_number}
 
 -- a flag in a word, and the flag in a word's lowest bit
 abbrev pub flag_word : Bool → ℕ
@@ -39,31 +37,31 @@ message_words m =
     flag_word m.tagged ∷ m.opcode ∷ m.stag ∷ m.to ∷ m.msn ∷ m.limit ∷ m.len ∷ m.at ∷ flag_word m.done ∷ []
 
 -- beginning a message: 0, or the refusal's number; and the words then: a refused one leaves the one before
-abbrev pub begun_number : Begun → ℕ
-begun_number (Ready m) = 0
-begun_number (NotBegun n) = n
+abbrev pub begun_number : Result Message LocalRefusal → ℕ
+begun_number (Ok m) = 0
+begun_number (Err k) = refusal_number k
 
-abbrev pub begun_words : List ℕ → Begun → List ℕ
-begun_words w (Ready m) = message_words m
-begun_words w (NotBegun n) = w
+abbrev pub begun_words : List ℕ → Result Message LocalRefusal → List ℕ
+begun_words w (Ok m) = message_words m
+begun_words w (Err k) = w
 
 -- what asking for the next segment answers, in two words: 0 and a refusal's number, 1 and the segment's length, or 2 and 0
-abbrev pub segment_words : Segment → List ℕ
-segment_words (Refused n) = 0 ∷ n ∷ []
-segment_words (Wrote n) = 1 ∷ n ∷ []
-segment_words Done = 2 ∷ 0 ∷ []
+abbrev pub segment_words : Result (Option ℕ) LocalRefusal → List ℕ
+segment_words (Err k) = 0 ∷ refusal_number k ∷ []
+segment_words (Ok (Some n)) = 1 ∷ n ∷ []
+segment_words (Ok None) = 2 ∷ 0 ∷ []
 
 -- and the words of the message then: they change where a segment is written, and only there
-abbrev pub words_after : List ℕ → Message → Segment → List ℕ
-words_after w m (Wrote n) = message_words m
-words_after w m Done = w
-words_after w m (Refused n) = w
+abbrev pub words_after : List ℕ → Message → Result (Option ℕ) LocalRefusal → List ℕ
+words_after w m (Ok (Some n)) = message_words m
+words_after w m (Ok None) = w
+words_after w m (Err k) = w
 
 -- the message in them then
-abbrev pub message_then : Message → Message → Segment → Message
-message_then m next (Wrote n) = next
-message_then m next Done = m
-message_then m next (Refused n) = m
+abbrev pub message_then : Message → Message → Result (Option ℕ) LocalRefusal → Message
+message_then m next (Ok (Some n)) = next
+message_then m next (Ok None) = m
+message_then m next (Err k) = m
 
-abbrev pub words_next : List ℕ → Next → List ℕ
-words_next w n = words_after w n.message n.answer
+abbrev pub words_next : List ℕ → (Result (Option ℕ) LocalRefusal × Message) → List ℕ
+words_next w n = words_after w n.1 n.0

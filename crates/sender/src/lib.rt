@@ -26,8 +26,8 @@ use crate::cut::{ends_in, piece_of};
 use crate::range::{send_in_range, stag_held, write_in_range};
 use ddp::header::{TaggedHeader, UntaggedHeader, write_tagged, write_untagged};
 use mpa::fpdu::MAX_ULPDU;
-use mpa::refusal::{NO_ROOM, OUT_OF_RANGE, OVER_LIMIT};
 use wire::copy::copy;
+use wire::refusal::LocalRefusal;
 
 pub mod cut;
 pub mod range;
@@ -49,37 +49,16 @@ pub struct Message {
     pub done: bool,
 }
 
-// What beginning a message answers.
-#[derive(Clone, Copy)]
-pub enum Begun {
-    Ready(Message),
-    Refused(u8),
-}
-
-// What asking for the next segment answers: its length; that there is none after the last; or a refusal.
-#[derive(Clone, Copy)]
-pub enum Segment {
-    Wrote(usize),
-    Done,
-    Refused(u8),
-}
-
-// The answer, and the message after it.
-#[derive(Drop)]
-pub struct Next {
-    pub answer: Segment,
-    pub message: Message,
-}
-
 // Begins a Write of len bytes to the tagged offset to of a window, in segments of at most limit bytes.
-pub fn begin_write(limit: u64, stag: u64, to: u64, len: u64) -> Begun
+#[tactic(auto, using(crate::proofs::Writes::write_true), unfolding(crate::specs::Message::write_begun))]
+pub fn begin_write(limit: u64, stag: u64, to: u64, len: u64) -> Result<Message, LocalRefusal>
     ensures { result ≡ write_begun limit stag to len }
 {
     if write_in_range(limit, stag, to, len) {
         if (MAX_ULPDU as u64) < limit {
-            return Begun::Refused(OVER_LIMIT);
+            return Err(LocalRefusal::OverLimit);
         }
-        return Begun::Ready(Message {
+        return Ok(Message {
             tagged: true,
             opcode: 0,
             stag: stag as u32,
@@ -91,20 +70,27 @@ pub fn begin_write(limit: u64, stag: u64, to: u64, len: u64) -> Begun
             done: false,
         });
     }
-    Begun::Refused(OUT_OF_RANGE)
+    Err(LocalRefusal::OutOfRange)
 }
 
 // Begins a Send of len bytes with its opcode and number, in segments of at most limit bytes. The STag is the
 // one to invalidate, and is looked at for an opcode with Invalidate alone.
-pub fn begin_send(limit: u64, opcode: u64, msn: u64, stag: u64, len: u64) -> Begun
+#[tactic(auto, using(crate::proofs::Writes::send_true), unfolding(crate::specs::Message::send_begun))]
+pub fn begin_send(
+    limit: u64,
+    opcode: u64,
+    msn: u64,
+    stag: u64,
+    len: u64,
+) -> Result<Message, LocalRefusal>
     ensures { result ≡ send_begun limit opcode msn stag len }
 {
     let held = stag_held(opcode, stag);
     if send_in_range(limit, opcode, msn, held, len) {
         if (MAX_ULPDU as u64) < limit {
-            return Begun::Refused(OVER_LIMIT);
+            return Err(LocalRefusal::OverLimit);
         }
-        return Begun::Ready(Message {
+        return Ok(Message {
             tagged: false,
             opcode: opcode as u8,
             stag: held as u32,
@@ -116,7 +102,7 @@ pub fn begin_send(limit: u64, opcode: u64, msn: u64, stag: u64, len: u64) -> Beg
             done: false,
         });
     }
-    Begun::Refused(OUT_OF_RANGE)
+    Err(LocalRefusal::OutOfRange)
 }
 
 // The size of the header before each payload.
@@ -130,15 +116,11 @@ fn header_size(tagged: bool) -> u32
 fn room_of(m: Message) -> u32
     ensures { result ≡ room_of m }
 {
-    let header = header_size(m.tagged);
-    if m.limit < header {
-        0
-    } else {
-        m.limit - header
-    }
+    m.limit.saturating_sub(header_size(m.tagged))
 }
 
 // The length of the next segment's payload.
+#[tactic(auto, using(crate::proofs::Cuts::piece_left))]
 fn payload_size(m: Message) -> u32
     requires { m.at ≤ m.len }
     ensures { (result ≡ payload_size m) × (m.at + result ≤ m.len) }
@@ -158,24 +140,25 @@ fn is_last(m: Message) -> bool
 fn control_byte(opcode: u8) -> u8
     ensures { result ≡ (64 + opcode) % 256 }
 {
-    std::num::wrapping_add_u8(64, opcode)
+    64u8.wrapping_add(opcode)
 }
 
 // Writes the next segment's header to the start of out.
+#[tactic(auto, using(crate::proofs::Writes::tagged_header, crate::proofs::Writes::untagged_header))]
 fn write_header(m: Message, last: bool, out: &mut [u8])
     requires { (last ≡ is_last m) × (header_size m ≤ length out.old) }
     ensures { out.new ≡ put out.old 0 (header_bytes m) }
 {
     let control = control_byte(m.opcode);
     if m.tagged {
-        let offset = std::num::wrapping_add_u64(m.to, m.at as u64);
+        let offset = m.to.wrapping_add(m.at as u64);
         let h = TaggedHeader {
             last,
             control,
             stag: m.stag,
             to: offset,
         };
-        write_tagged(h, out);
+        let _ = write_tagged(h, out);
     } else {
         let h = UntaggedHeader {
             last,
@@ -185,11 +168,12 @@ fn write_header(m: Message, last: bool, out: &mut [u8])
             msn: m.msn,
             mo: m.at,
         };
-        write_untagged(h, out);
+        let _ = write_untagged(h, out);
     }
 }
 
 // Writes the next segment to the start of out: its header of so many bytes, and a payload of so many.
+#[tactic(auto, using(crate::proofs::Writes::segment_put))]
 fn write_segment(
     m: Message,
     last: bool,
@@ -207,61 +191,43 @@ fn write_segment(
 }
 
 // The message after a segment with a payload of so many bytes.
+#[tactic(auto, unfolding(crate::specs::Message::advanced))]
 fn advance(m: Message, last: bool, payload: u32) -> Message
     requires { (last ≡ is_last m) × (payload ≡ payload_size m) × (m.at + payload ≤ m.len) }
     ensures { result ≡ advanced m }
 {
     Message {
-        tagged: m.tagged,
-        opcode: m.opcode,
-        stag: m.stag,
-        to: m.to,
-        msn: m.msn,
-        limit: m.limit,
-        len: m.len,
         at: m.at + payload,
         done: last,
+        ..m
     }
 }
 
 impl Message {
     // Writes the next segment of the message lent to the start of out, or says that there is none. Where it
     // is refused, out keeps its bytes, and the segment stays next.
-    pub fn next(self, message: &[u8], out: &mut [u8]) -> Next
+    #[tactic(auto, unfolding(crate::specs::Message::next_answer, crate::specs::Message::next_of, crate::specs::Message::next_out))]
+    pub fn next(
+        self,
+        message: &[u8],
+        out: &mut [u8],
+    ) -> (Result<Option<usize>, LocalRefusal>, Message)
         ensures { (result ≡ next_of self (length message.now) (length out.old)) × (out.new ≡ next_out self message.now out.old) }
     {
-        if message.len() != self.len as usize {
-            return Next {
-                answer: Segment::Refused(OUT_OF_RANGE),
-                message: self,
-            };
-        }
-        if self.len < self.at {
-            return Next {
-                answer: Segment::Refused(OUT_OF_RANGE),
-                message: self,
-            };
+        if message.len() != self.len as usize || self.len < self.at {
+            return (Err(LocalRefusal::OutOfRange), self);
         }
         if self.done {
-            return Next {
-                answer: Segment::Done,
-                message: self,
-            };
+            return (Ok(None), self);
         }
         let header = header_size(self.tagged) as usize;
         let payload = payload_size(self);
         let last = is_last(self);
         let size = header + payload as usize;
         if out.len() < size {
-            return Next {
-                answer: Segment::Refused(NO_ROOM),
-                message: self,
-            };
+            return (Err(LocalRefusal::NoRoom), self);
         }
         write_segment(self, last, header, payload as usize, message, out);
-        Next {
-            answer: Segment::Wrote(size),
-            message: advance(self, last, payload),
-        }
+        (Ok(Some(size)), advance(self, last, payload))
     }
 }

@@ -2,13 +2,14 @@
 ghost use Rattle.std.specs.Prelude.{◌≡◌, not, nat_le};
 ghost use Rattle.wire.specs.Wire.{both};
 ghost use Rattle.memory.specs.Window.{wraps};
-ghost use Rattle.rdmap.specs.Message.{is_send, takes_stag};
+ghost use Rattle.rdmap.specs.Message.{is_send};
 ghost use Rattle.sender.specs.Message.{max32, sized, stag_held};
 
 use memory::window::wraps_around;
+use rdmap::message::{is_send, takes_stag};
 
 // The largest number of 32 bits.
-const MAX32: u64 = 4294967295;
+const MAX32: u64 = u32::MAX as u64;
 
 // The smallest size of a segment: the longer header, and one byte.
 const MIN_ULPDU: u64 = 19;
@@ -17,40 +18,14 @@ const MIN_ULPDU: u64 = 19;
 fn is_sized(limit: u64, len: u64) -> bool
     ensures { result ≡ sized limit len }
 {
-    if limit < MIN_ULPDU {
-        return false;
-    }
-    len <= MAX32
+    MIN_ULPDU <= limit && len <= MAX32
 }
 
 // Whether a Write may be begun.
 pub fn write_in_range(limit: u64, stag: u64, to: u64, len: u64) -> bool
     ensures { result ≡ both (sized limit len) (both (nat_le stag max32) (not (wraps to len))) }
 {
-    if is_sized(limit, len) {
-        if MAX32 < stag {
-            return false;
-        }
-        return !wraps_around(to, len);
-    }
-    false
-}
-
-// Whether an opcode is a Send's.
-fn is_send(opcode: u64) -> bool
-    ensures { result ≡ is_send opcode }
-{
-    if opcode < 3 {
-        return false;
-    }
-    opcode <= 6
-}
-
-// Whether a Send with this opcode invalidates an STag.
-fn takes_stag(opcode: u64) -> bool
-    ensures { result ≡ takes_stag opcode }
-{
-    if opcode == 4 { true } else { opcode == 6 }
+    is_sized(limit, len) && stag <= MAX32 && !wraps_around(to, len)
 }
 
 // The STag in a Send's headers: the one to invalidate, or 0.
@@ -64,13 +39,5 @@ pub fn stag_held(opcode: u64, stag: u64) -> u64
 pub fn send_in_range(limit: u64, opcode: u64, msn: u64, held: u64, len: u64) -> bool
     ensures { result ≡ both (sized limit len) (both (is_send opcode) (both (nat_le msn max32) (nat_le held max32))) }
 {
-    if is_sized(limit, len) {
-        if is_send(opcode) {
-            if MAX32 < msn {
-                return false;
-            }
-            return held <= MAX32;
-        }
-    }
-    false
+    is_sized(limit, len) && is_send(opcode) && msn <= MAX32 && held <= MAX32
 }

@@ -16,13 +16,14 @@ ghost use Rattle.sender.specs.Words.{
   words_next,
 };
 
-use crate::{Begun, Message, Segment};
+use crate::Message;
+use wire::refusal::LocalRefusal;
 
 // A flag in a word.
 fn flag(b: bool) -> u64
     ensures { (result ≡ flag_word b) × (flag_in result ≡ b) }
 {
-    if b { 1 } else { 0 }
+    u64::from(b)
 }
 
 // The number of 32 bits in a word.
@@ -33,6 +34,7 @@ fn lower(x: u64) -> u32
 }
 
 // The message in the words.
+#[tactic(auto, unfolding(crate::specs::Words::message_at))]
 pub fn load(words: &[u64; 9]) -> Message
     ensures { result ≡ message_at words.now }
 {
@@ -50,6 +52,7 @@ pub fn load(words: &[u64; 9]) -> Message
 }
 
 // The words of a message, which say the message.
+#[tactic(auto, using(crate::proofs::Held::message_back), unfolding(crate::specs::Words::message_words))]
 fn encode(m: Message) -> [u64; 9]
     ensures { (result ≡ message_words m) × (message_at (message_words m) ≡ m) }
 {
@@ -75,48 +78,46 @@ pub fn store(words: &mut [u64; 9], m: Message)
 
 // Puts a message that was begun into the words, and answers 0; where it was refused, answers the refusal's
 // number, and the words stay.
-pub fn begin_in(words: &mut [u64; 9], begun: Begun) -> u32
+pub fn begin_in(words: &mut [u64; 9], begun: Result<Message, LocalRefusal>) -> u32
     ensures { (result ≡ begun_number begun) × (words.new ≡ begun_words words.old begun) }
 {
     match begun {
-        Begun::Ready(m) => {
+        Ok(m) => {
             store(words, m);
             0
         }
-        Begun::Refused(number) => number as u32,
+        Err(refusal) => refusal.number() as u32,
     }
 }
 
 // The two words of an answer: its kind and its number.
-fn answer_words(answer: Segment) -> [u64; 2]
+fn answer_words(answer: Result<Option<usize>, LocalRefusal>) -> [u64; 2]
     ensures { result ≡ segment_words answer }
 {
     match answer {
-        Segment::Refused(number) => [0, number as u64],
-        Segment::Wrote(size) => [1, size as u64],
-        Segment::Done => [2, 0],
+        Err(refusal) => [0, refusal.number() as u64],
+        Ok(Some(size)) => [1, size as u64],
+        Ok(None) => [2, 0],
     }
 }
 
 // Puts the message after an answer into the words, where a segment was written.
-fn keep(words: &mut [u64; 9], m: Message, answer: Segment)
+fn keep(words: &mut [u64; 9], m: Message, answer: Result<Option<usize>, LocalRefusal>)
     ensures { (words.new ≡ words_after words.old m answer) × (message_at words.new ≡ message_then (message_at words.old) m answer) }
 {
-    match answer {
-        Segment::Wrote(_) => store(words, m),
-        Segment::Done => (),
-        Segment::Refused(_) => (),
+    if let Ok(Some(_)) = answer {
+        store(words, m);
     }
 }
 
 // Writes the next segment of the message in the words, lent its bytes, to the start of out; the answer's
 // words say what was done.
+#[tactic(auto, using(crate::proofs::Held::message_next))]
 pub fn next_in(words: &mut [u64; 9], message: &[u8], out: &mut [u8], answer: &mut [u64; 2])
-    ensures { (words.new ≡ words_next words.old (next_of (message_at words.old) (length message.now) (length out.old))) × (answer.new ≡ segment_words (next_of (message_at words.old) (length message.now) (length out.old)).answer) × (out.new ≡ next_out (message_at words.old) message.now out.old) × (message_at words.new ≡ (next_of (message_at words.old) (length message.now) (length out.old)).message) }
+    ensures { (words.new ≡ words_next words.old (next_of (message_at words.old) (length message.now) (length out.old))) × (answer.new ≡ segment_words (next_of (message_at words.old) (length message.now) (length out.old)).0) × (out.new ≡ next_out (message_at words.old) message.now out.old) × (message_at words.new ≡ (next_of (message_at words.old) (length message.now) (length out.old)).1) }
 {
     let m = load(words);
-    let next = m.next(message, out);
-    let told = next.answer;
-    keep(words, next.message, told);
+    let (told, next) = m.next(message, out);
+    keep(words, next, told);
     *answer = answer_words(told);
 }

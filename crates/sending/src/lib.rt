@@ -4,16 +4,14 @@
 // Read `Order` first, then `run`. A line's words are in the crate `command`, the writer in `sender`.
 #![tactic(auto)]
 
-ghost use Rattle.std.specs.Prelude.{◌≡◌, ◌≤◌, min, leb, length, take};
+ghost use Rattle.std.specs.Prelude.{◌≡◌, ◌≤◌, min, leb, length, take, IfSome};
 ghost use Rattle.wire.specs.Wire.{pick};
-ghost use Rattle.command.specs.Args.{line_words, word_of, words_at};
+ghost use Rattle.command.specs.Args.{line_words, word_of, words_of};
 ghost use Rattle.sender.specs.Message.{next_of};
 ghost use Rattle.sender.specs.Words.{message_at, begun_words, words_next};
 ghost use Rattle.sending.specs.Sending.{
   is_order,
-  write_of,
   ask_write,
-  send_of,
   ask_send,
   ask_begin,
   hex_word,
@@ -26,20 +24,20 @@ ghost use Rattle.sending.specs.Sending.{
   no_message,
 };
 
-use command::answer::{bad, first, refused, wrote};
-use command::args::{Words, hex_into, room, split, word};
-use script::number::{Number, read_number};
+use command::answer::{bad, refused, wrote};
+use command::args::{Words, room, split};
+use script::hex::decode;
+use script::text::Text;
 use sender::words::{begin_in, load, next_in};
-use sender::{Begun, begin_send, begin_write};
-use wire::copy::{copy, same};
+use sender::{Message, begin_send, begin_write};
+use wire::copy::copy;
+use wire::refusal::LocalRefusal;
 
-// What a line asks: that a message is begun, or may not be; the next segment, in so much room; or nothing,
-// where it is no such command.
+// What a line asks: that a message is begun, or may not be; or the next segment, in so much room.
 #[derive(Drop)]
 pub enum Order {
-    Begin(Begun),
+    Begin(Result<Message, LocalRefusal>),
     Segment(u64),
-    Bad,
 }
 
 // The same with how many bytes the message has.
@@ -57,178 +55,130 @@ pub fn no_message() -> [u64; 9]
 }
 
 // Whether a line of that first word is one of these commands.
+#[tactic(auto, using(script::proofs::Same::equal_same), unfolding(crate::specs::Sending::is_order))]
 fn is_order(name: &[u8]) -> bool
     ensures { result ≡ is_order name.now }
 {
-    if same(name, b"message") {
-        return true;
-    }
-    same(name, b"segment")
+    name == b"message".as_slice() || name == b"segment".as_slice()
 }
 
 // Whether a line is one of these commands, good or bad.
 pub fn is_sending(line: &[u8]) -> bool
     ensures { result ≡ is_order (word_of (line_words line.now) 0) }
 {
-    let words = split(line);
-    is_order(word(line, words, 0))
+    is_order(split(line).word(0))
 }
 
-// A Write of so many bytes, of the words of its numbers.
-fn write_of(limit: &[u8], stag: &[u8], to: &[u8], size: usize) -> Order
-    ensures { result ≡ write_of limit.now stag.now to.now size }
+// `message write LIMIT STAG TO HEX`: a Write of so many bytes.
+#[tactic(auto, unfolding(crate::specs::Sending::ask_write, crate::specs::Sending::write_of))]
+fn ask_write(words: &Words, size: usize) -> Option<Order>
+    ensures { result ≡ ask_write (words_of words.now) size }
 {
-    let Number::Value(l) = read_number(limit) else {
-        return Order::Bad;
-    };
-    let Number::Value(s) = read_number(stag) else {
-        return Order::Bad;
-    };
-    let Number::Value(t) = read_number(to) else {
-        return Order::Bad;
-    };
-    Order::Begin(begin_write(l, s, t, size as u64))
-}
-
-// `message write LIMIT STAG TO HEX`.
-fn ask_write(line: &[u8], words: Words, size: usize) -> Order
-    ensures { result ≡ ask_write (words_at line.now words) size }
-{
-    if words.count != 6 {
-        return Order::Bad;
+    if words.len() != 6 {
+        return None;
     }
-    write_of(
-        word(line, words, 2),
-        word(line, words, 3),
-        word(line, words, 4),
-        size,
-    )
+    let limit = words.number(2)?;
+    let stag = words.number(3)?;
+    let to = words.number(4)?;
+    Some(Order::Begin(begin_write(limit, stag, to, size as u64)))
 }
 
-// A Send of so many bytes, of the words of its numbers.
-fn send_of(limit: &[u8], opcode: &[u8], msn: &[u8], stag: &[u8], size: usize) -> Order
-    ensures { result ≡ send_of limit.now opcode.now msn.now stag.now size }
+// `message send LIMIT OPCODE MSN STAG HEX`: a Send of so many bytes.
+#[tactic(auto, unfolding(crate::specs::Sending::ask_send, crate::specs::Sending::send_of))]
+fn ask_send(words: &Words, size: usize) -> Option<Order>
+    ensures { result ≡ ask_send (words_of words.now) size }
 {
-    let Number::Value(l) = read_number(limit) else {
-        return Order::Bad;
-    };
-    let Number::Value(o) = read_number(opcode) else {
-        return Order::Bad;
-    };
-    let Number::Value(m) = read_number(msn) else {
-        return Order::Bad;
-    };
-    let Number::Value(s) = read_number(stag) else {
-        return Order::Bad;
-    };
-    Order::Begin(begin_send(l, o, m, s, size as u64))
-}
-
-// `message send LIMIT OPCODE MSN STAG HEX`.
-fn ask_send(line: &[u8], words: Words, size: usize) -> Order
-    ensures { result ≡ ask_send (words_at line.now words) size }
-{
-    if words.count != 7 {
-        return Order::Bad;
+    if words.len() != 7 {
+        return None;
     }
-    send_of(
-        word(line, words, 2),
-        word(line, words, 3),
-        word(line, words, 4),
-        word(line, words, 5),
-        size,
-    )
+    let limit = words.number(2)?;
+    let opcode = words.number(3)?;
+    let msn = words.number(4)?;
+    let stag = words.number(5)?;
+    Some(Order::Begin(begin_send(limit, opcode, msn, stag, size as u64)))
 }
 
 // Either of them.
-fn ask_begin(line: &[u8], words: Words, size: usize) -> Order
-    ensures { result ≡ ask_begin (words_at line.now words) size }
+#[tactic(auto, using(script::proofs::Same::equal_same), unfolding(crate::specs::Sending::ask_begin))]
+fn ask_begin(words: &Words, size: usize) -> Option<Order>
+    ensures { result ≡ ask_begin (words_of words.now) size }
 {
-    let kind = word(line, words, 1);
-    if same(kind, b"write") {
-        return ask_write(line, words, size);
+    let kind = words.word(1);
+    if kind == b"write".as_slice() {
+        return ask_write(words, size);
     }
-    if same(kind, b"send") {
-        return ask_send(line, words, size);
+    if kind == b"send".as_slice() {
+        return ask_send(words, size);
     }
-    Order::Bad
+    None
 }
 
 // The word of hex of either.
-fn hex_word(line: &[u8], words: Words) -> &[u8]
-    ensures { result.now ≡ hex_word (words_at line.now words) }
+#[tactic(auto, using(script::proofs::Same::equal_same), unfolding(crate::specs::Sending::hex_word))]
+fn hex_word<'a>(words: &Words<'a>) -> &'a [u8]
+    ensures { result.now ≡ hex_word (words_of words.now) }
 {
-    if same(word(line, words, 1), b"write") {
-        return word(line, words, 5);
+    if words.word(1) == b"write".as_slice() {
+        return words.word(5);
     }
-    word(line, words, 6)
+    words.word(6)
 }
 
 // What a line asks; the bytes that its word of hex stands for are put at the start of bytes.
-fn ask_order(line: &[u8], words: Words, bytes: &mut [u8]) -> Ordered
-    ensures asked { result ≡ order_of (words_at line.now words) (length bytes.old) }
-    ensures bytes { take result.size bytes.new ≡ bytes_of (words_at line.now words) (length bytes.old) }
-    ensures within { result.size ≤ length bytes.new }
+#[tactic(auto, using(script::proofs::Same::equal_same), unfolding(crate::specs::Sending::order_of, crate::specs::Sending::bytes_of))]
+fn ask_order(words: &Words, bytes: &mut [u8]) -> Option<Ordered>
+    ensures asked { result ≡ order_of (words_of words.now) (length bytes.old) }
+    ensures bytes { IfSome result (λ o. take o.size bytes.new ≡ bytes_of (words_of words.now) (length bytes.old)) }
+    ensures within { IfSome result (λ o. o.size ≤ length bytes.new) }
 {
-    if same(word(line, words, 0), b"message") {
-        let hex = hex_into(hex_word(line, words), bytes);
-        if hex.ok {
-            let size = hex.count;
-            let order = ask_begin(line, words, size);
-            return Ordered { order, size };
-        }
-        return Ordered {
-            order: Order::Bad,
-            size: 0,
-        };
+    if words.word(0) == b"message".as_slice() {
+        let size = decode(hex_word(words), bytes)?;
+        let order = ask_begin(words, size)?;
+        return Some(Ordered { order, size });
     }
-    let order = ask_segment(line, words);
-    Ordered { order, size: 0 }
+    let order = ask_segment(words)?;
+    Some(Ordered { order, size: 0 })
 }
 
 // `segment ROOM`.
-fn ask_segment(line: &[u8], words: Words) -> Order
-    ensures { result ≡ ask_segment (words_at line.now words) }
+#[tactic(auto, unfolding(crate::specs::Sending::ask_segment))]
+fn ask_segment(words: &Words) -> Option<Order>
+    ensures { result ≡ ask_segment (words_of words.now) }
 {
-    if words.count != 2 {
-        return Order::Bad;
+    if words.len() != 2 {
+        return None;
     }
-    let Number::Value(asked) = read_number(word(line, words, 1)) else {
-        return Order::Bad;
-    };
-    Order::Segment(asked)
+    let room = words.number(1)?;
+    Some(Order::Segment(room))
 }
 
 // `done`, or `refused NUMBER`.
-fn tell_begun(number: u32, text: &mut [u8]) -> usize
-    ensures { result ≤ length text.old }
-{
+fn tell_begun<const N: usize>(number: u32, text: &mut Text<N>) {
     if number == 0 {
-        return first(b"done", text);
+        text.put(b"done");
+    } else {
+        refused((number % 256) as u8, text);
     }
-    refused((number % 256) as u8, text)
 }
 
 // Keeps the bytes of a message that was begun.
-fn hold(begun: Begun, held: &mut [u8], bytes: &[u8])
+fn hold(begun: Result<Message, LocalRefusal>, held: &mut [u8], bytes: &[u8])
     requires { length bytes.now ≤ length held.old }
     ensures { held.new ≡ held_begun held.old begun bytes.now }
 {
-    match begun {
-        Begun::Ready(_) => copy(held, 0, bytes),
-        Begun::Refused(_) => (),
+    if begun.is_ok() {
+        copy(held, 0, bytes);
     }
 }
 
 // Begins a message of these bytes, if they fit; a refused one leaves the one before.
-fn begin(
-    begun: Begun,
+fn begin<const N: usize>(
+    begun: Result<Message, LocalRefusal>,
     message: &mut [u64; 9],
     held: &mut [u8],
     bytes: &[u8],
-    text: &mut [u8],
-) -> usize
-    ensures within { result ≤ length text.old }
+    text: &mut Text<N>,
+)
     ensures message { message.new ≡ pick (leb (length bytes.now) (length held.old)) (begun_words message.old begun) message.old }
     ensures held { held.new ≡ pick (leb (length bytes.now) (length held.old)) (held_begun held.old begun bytes.now) held.old }
 {
@@ -241,29 +191,25 @@ fn begin(
 }
 
 // `wrote N HEX`, `end` or `refused NUMBER`, of the words of an answer and the bytes that were written.
-fn tell_segment(answer: [u64; 2], frame: &[u8], text: &mut [u8]) -> usize
-    ensures { result ≤ length text.old }
-{
-    let kind = answer[0];
-    match kind {
+fn tell_segment<const N: usize>(answer: [u64; 2], frame: &[u8], text: &mut Text<N>) {
+    match answer[0] {
         0 => refused((answer[1] % 256) as u8, text),
         1 => {
             let size = room(answer[1], frame.len());
             wrote(&frame[..size], text)
         }
-        _ => first(b"end", text),
+        _ => text.put(b"end"),
     }
 }
 
 // Writes the next segment into a part of frame of the room asked for.
-fn segment(
+fn segment<const N: usize>(
     asked: u64,
     message: &mut [u64; 9],
     held: &[u8],
     frame: &mut [u8],
-    text: &mut [u8],
-) -> usize
-    ensures within { result ≤ length text.old }
+    text: &mut Text<N>,
+)
     ensures message { message.new ≡ words_next message.old (next_of (message_at message.old) (min (message_at message.old).len (length held.now)) (min asked (length frame.old))) }
 {
     let m = load(message);
@@ -276,25 +222,25 @@ fn segment(
 
 // Runs a line on the message begun last: its words, and its bytes in front of held. The text alone is not
 // said.
-pub fn run(
+#[tactic(auto, unfolding(crate::specs::Sending::message_after, crate::specs::Sending::held_after))]
+pub fn run<const N: usize>(
     line: &[u8],
     message: &mut [u64; 9],
     held: &mut [u8],
     bytes: &mut [u8],
     frame: &mut [u8],
-    text: &mut [u8],
-) -> usize
-    ensures within { result ≤ length text.old }
+    text: &mut Text<N>,
+)
     ensures message { message.new ≡ message_after message.old (length held.old) (length bytes.old) (length frame.old) line.now }
     ensures held { held.new ≡ held_after held.old (length bytes.old) line.now }
 {
     let words = split(line);
-    let asked = ask_order(line, words, bytes);
-    let order = asked.order;
+    let Some(asked) = ask_order(&words, bytes) else {
+        return bad(text);
+    };
     let size = asked.size;
-    match order {
+    match asked.order {
         Order::Begin(begun) => begin(begun, message, held, &bytes[..size], text),
         Order::Segment(most) => segment(most, message, held, frame, text),
-        Order::Bad => bad(text),
     }
 }

@@ -7,28 +7,22 @@ use mathlib.Core.Path.{◌≡◌, sym, ap, ◌∙◌}
 use lib.Dec.{eqb}
 use lib.Seq.{set-get_or}
 use Rattle.wire.specs.Wire.{pick}
-use Rattle.memory.specs.declared.part.Outcome.{Outcome}
-use Rattle.memory.specs.declared.part.Outcome.TheVariants.{Done, Refused}
 use Rattle.rdmap.specs.Phase.{is_closed, readiness}
 use Rattle.rdmap.specs.Read.{first_read, popped_reads}
 use Rattle.rdmap.specs.Stream.{closed_stream, opened_stream, with_reads, opened, closed, posted_on, posted_when, taken_from, taken_when, no_stream}
-use Rattle.rdmap.specs.declared.phase.Readiness.{Readiness}
-use Rattle.rdmap.specs.declared.phase.Readiness.TheVariants.{Ready, NotReady}
 use Rattle.rdmap.specs.declared.read.Reads.{Reads}
-use Rattle.rdmap.specs.declared.stream.CloseAnswer.{CloseAnswer}
-use Rattle.rdmap.specs.declared.stream.CloseAnswer.TheVariants.{Closed as CountedOut, Refused as NotClosed}
 use Rattle.rdmap.specs.declared.stream.Stream.{Stream}
-use Rattle.rdmap.specs.declared.stream.StreamClosed.{StreamClosed}
-use Rattle.rdmap.specs.declared.stream.StreamDone.{StreamDone}
-use Rattle.rdmap.specs.declared.stream.StreamTaken.{StreamTaken}
-use Rattle.rdmap.specs.declared.stream.TakeAnswer.{TakeAnswer}
-use Rattle.rdmap.specs.declared.stream.TakeAnswer.TheVariants.{Read, Refused as NotTaken}
 use Rattle.rnic.specs.Rnic.{no_domain, domain_at, with_domain}
 use Rattle.rnic.specs.declared.Rnic.{Rnic}
 use Rattle.block.specs.Stream.{loaded_phase, loaded_framing, loaded_terminates, loaded_sends, loaded_reads}
 use Rattle.block.specs.Device.{rnic_at}
 use Rattle.block.specs.Exchange.{stream_of, with_stream_of}
 use Rattle.block.proofs.Stored.{groups_at}
+use Rattle.std.specs.Prelude.{Err, Ok, Result, ⊤}
+use Rattle.rdmap.specs.declared.read.ReadRequest.{ReadRequest}
+use Rattle.rdmap.specs.declared.stream.Left.{Left}
+use Rattle.wire.specs.declared.refusal.LocalRefusal.{LocalRefusal}
+use Rattle.wire.specs.declared.refusal.LocalRefusal.TheVariants.{AlreadyOpen, NoReadWaits, NotOpen}
 
 -- a domain's entry exchanged for itself, and a stream
 pub domain-kept : (b : Rnic) (d : ℕ) → with_domain b d (domain_at b d) ≡ b
@@ -66,73 +60,73 @@ module _ (w : List ℕ) (d j : ℕ) (hd : d < 4) (hj : j < 4) where
 
   -- ---- opened
 
-  opened_when : (crc t : Bool) → is_closed (loaded_phase w d j) ≡ t → opened s crc ≡ pick t (record { outcome = Done; stream = opened_stream crc }) (record { outcome = Refused 4; stream = s })
+  opened_when : (crc t : Bool) → is_closed (loaded_phase w d j) ≡ t → opened s crc ≡ pick t (Ok tt, opened_stream crc) (Err AlreadyOpen, s)
   unfolding opened
-  opened_when crc t e = ap (λ (u : Bool). pick u (record { outcome = Done; stream = opened_stream crc }) (record { outcome = Refused 4; stream = s })) (ap is_closed phase_of_lem ∙ e)
+  opened_when crc t e = ap (λ (u : Bool). pick u (Ok tt, opened_stream crc) (Err AlreadyOpen, s)) (ap is_closed phase_of_lem ∙ e)
 
   -- a block v holds the device with the stream that a call leaves, and the call answers so
-  abbrev OpenedAs : Bool → Outcome → List ℕ → Type 0
-  OpenedAs crc o v = (o ≡ (opened s crc).outcome) × (rnic_at v ≡ with_stream_of b d j (opened s crc).stream)
+  abbrev OpenedAs : Bool → Result ⊤ LocalRefusal → List ℕ → Type 0
+  OpenedAs crc o v = (o ≡ (opened s crc).0) × (rnic_at v ≡ with_stream_of b d j (opened s crc).1)
 
-  pub open_done : (crc : Bool) (v : List ℕ) → is_closed (loaded_phase w d j) ≡ true → rnic_at v ≡ with_stream_of b d j (opened_stream crc) → OpenedAs crc Done v
+  pub open_done : (crc : Bool) (v : List ℕ) → is_closed (loaded_phase w d j) ≡ true → rnic_at v ≡ with_stream_of b d j (opened_stream crc) → OpenedAs crc (Ok tt) v
   open_done crc v e is =
       let t = opened_when crc true e in
-      (sym (ap (λ (x : StreamDone). x.outcome) t), is ∙ sym (ap (λ (x : StreamDone). with_stream_of b d j x.stream) t))
+      (sym (ap (λ (x : Result ⊤ LocalRefusal × Stream). x.0) t), is ∙ sym (ap (λ (x : Result ⊤ LocalRefusal × Stream). with_stream_of b d j x.1) t))
 
-  pub open_refused : (crc : Bool) → is_closed (loaded_phase w d j) ≡ false → OpenedAs crc (Refused 4) w
+  pub open_refused : (crc : Bool) → is_closed (loaded_phase w d j) ≡ false → OpenedAs crc (Err AlreadyOpen) w
   open_refused crc e =
       let t = opened_when crc false e in
-      (sym (ap (λ (x : StreamDone). x.outcome) t), sym (ap (λ (x : StreamDone). with_stream_of b d j x.stream) t ∙ stream-kept b d j))
+      (sym (ap (λ (x : Result ⊤ LocalRefusal × Stream). x.0) t), sym (ap (λ (x : Result ⊤ LocalRefusal × Stream). with_stream_of b d j x.1) t ∙ stream-kept b d j))
 
   -- ---- closed
 
-  closed_when : (t : Bool) → is_closed (loaded_phase w d j) ≡ t → closed s ≡ pick t (record { answer = NotClosed 3; stream = s }) (record { answer = CountedOut (loaded_sends w d j).buffers.count (loaded_reads w d j).count; stream = closed_stream })
+  closed_when : (t : Bool) → is_closed (loaded_phase w d j) ≡ t → closed s ≡ pick t (Err NotOpen, s) (Ok (record { buffers = (loaded_sends w d j).buffers.count; reads = (loaded_reads w d j).count }), closed_stream)
   unfolding closed
-  closed_when t e = λ i. pick ((ap is_closed phase_of_lem ∙ e) i) (record { answer = NotClosed 3; stream = s }) (record { answer = CountedOut (sends_of i).buffers.count (reads_of i).count; stream = closed_stream })
+  closed_when t e = λ i. pick ((ap is_closed phase_of_lem ∙ e) i) (Err NotOpen, s) (Ok (record { buffers = (sends_of i).buffers.count; reads = (reads_of i).count }), closed_stream)
 
-  abbrev ClosedAs : CloseAnswer → List ℕ → Type 0
-  ClosedAs a v = (a ≡ (closed s).answer) × (rnic_at v ≡ with_stream_of b d j (closed s).stream)
+  abbrev ClosedAs : Result Left LocalRefusal → List ℕ → Type 0
+  ClosedAs a v = (a ≡ (closed s).0) × (rnic_at v ≡ with_stream_of b d j (closed s).1)
 
-  pub close_done : (v : List ℕ) → is_closed (loaded_phase w d j) ≡ false → rnic_at v ≡ with_stream_of b d j closed_stream → ClosedAs (CountedOut (loaded_sends w d j).buffers.count (loaded_reads w d j).count) v
+  pub close_done : (v : List ℕ) → is_closed (loaded_phase w d j) ≡ false → rnic_at v ≡ with_stream_of b d j closed_stream → ClosedAs (Ok (record { buffers = (loaded_sends w d j).buffers.count; reads = (loaded_reads w d j).count })) v
   close_done v e is =
       let t = closed_when false e in
-      (sym (ap (λ (x : StreamClosed). x.answer) t), is ∙ sym (ap (λ (x : StreamClosed). with_stream_of b d j x.stream) t))
+      (sym (ap (λ (x : Result Left LocalRefusal × Stream). x.0) t), is ∙ sym (ap (λ (x : Result Left LocalRefusal × Stream). with_stream_of b d j x.1) t))
 
-  pub close_refused : is_closed (loaded_phase w d j) ≡ true → ClosedAs (NotClosed 3) w
+  pub close_refused : is_closed (loaded_phase w d j) ≡ true → ClosedAs (Err NotOpen) w
   close_refused e =
       let t = closed_when true e in
-      (sym (ap (λ (x : StreamClosed). x.answer) t), sym (ap (λ (x : StreamClosed). with_stream_of b d j x.stream) t ∙ stream-kept b d j))
+      (sym (ap (λ (x : Result Left LocalRefusal × Stream). x.0) t), sym (ap (λ (x : Result Left LocalRefusal × Stream). with_stream_of b d j x.1) t ∙ stream-kept b d j))
 
   -- ---- a buffer posted
 
-  pub posted_when_lem : (start len : ℕ) (r : Readiness) → readiness (loaded_phase w d j) ≡ r → posted_on s (domain_at b d).part start len ≡ posted_when s (domain_at b d).part start len r
+  pub posted_when_lem : (start len : ℕ) (r : Result ⊤ LocalRefusal) → readiness (loaded_phase w d j) ≡ r → posted_on s (domain_at b d).part start len ≡ posted_when s (domain_at b d).part start len r
   unfolding posted_on
   posted_when_lem start len r e = ap (posted_when s (domain_at b d).part start len) (ap readiness phase_of_lem ∙ e)
 
   -- ---- a read taken
 
-  taken_when_lem : (r : Readiness) → readiness (loaded_phase w d j) ≡ r → taken_from s ≡ taken_when s r
+  taken_when_lem : (r : Result ⊤ LocalRefusal) → readiness (loaded_phase w d j) ≡ r → taken_from s ≡ taken_when s r
   unfolding taken_from
   taken_when_lem r e = ap (taken_when s) (ap readiness phase_of_lem ∙ e)
 
-  abbrev TakenAs : TakeAnswer → List ℕ → Type 0
-  TakenAs a v = (a ≡ (taken_from s).answer) × (rnic_at v ≡ with_stream_of b d j (taken_from s).stream)
+  abbrev TakenAs : Result ReadRequest LocalRefusal → List ℕ → Type 0
+  TakenAs a v = (a ≡ (taken_from s).0) × (rnic_at v ≡ with_stream_of b d j (taken_from s).1)
 
-  left : (k : ℕ) → taken_from s ≡ record { answer = NotTaken k; stream = s } → TakenAs (NotTaken k) w
-  left k t = (sym (ap (λ (x : StreamTaken). x.answer) t), sym (ap (λ (x : StreamTaken). with_stream_of b d j x.stream) t ∙ stream-kept b d j))
+  left : (k : LocalRefusal) → taken_from s ≡ (Err k, s) → TakenAs (Err k) w
+  left k t = (sym (ap (λ (x : Result ReadRequest LocalRefusal × Stream). x.0) t), sym (ap (λ (x : Result ReadRequest LocalRefusal × Stream). with_stream_of b d j x.1) t ∙ stream-kept b d j))
 
-  pub take-refused : (k : ℕ) → readiness (loaded_phase w d j) ≡ NotReady k → TakenAs (NotTaken k) w
-  take-refused k e = left k (taken_when_lem (NotReady k) e)
+  pub take-refused : (k : LocalRefusal) → readiness (loaded_phase w d j) ≡ Err k → TakenAs (Err k) w
+  take-refused k e = left k (taken_when_lem (Err k) e)
 
-  counted : (t : Bool) → readiness (loaded_phase w d j) ≡ Ready → eqb (loaded_reads w d j).count 0 ≡ t → taken_from s ≡ pick t (record { answer = NotTaken 11; stream = s }) (record { answer = Read (first_read (loaded_reads w d j)); stream = with_reads s (popped_reads (loaded_reads w d j)) })
+  counted : (t : Bool) → readiness (loaded_phase w d j) ≡ (Ok tt) → eqb (loaded_reads w d j).count 0 ≡ t → taken_from s ≡ pick t (Err NoReadWaits, s) (Ok (first_read (loaded_reads w d j)), with_reads s (popped_reads (loaded_reads w d j)))
   counted t e n =
-      taken_when_lem Ready e
-      ∙ (λ i. pick ((ap (λ (x : Reads). eqb x.count 0) reads_of ∙ n) i) (record { answer = NotTaken 11; stream = s }) (record { answer = Read (first_read (reads_of i)); stream = with_reads s (popped_reads (reads_of i)) }))
+      taken_when_lem (Ok tt) e
+      ∙ (λ i. pick ((ap (λ (x : Reads). eqb x.count 0) reads_of ∙ n) i) (Err NoReadWaits, s) (Ok (first_read (reads_of i)), with_reads s (popped_reads (reads_of i))))
 
-  pub take_none : readiness (loaded_phase w d j) ≡ Ready → eqb (loaded_reads w d j).count 0 ≡ true → TakenAs (NotTaken 11) w
-  take_none e n = left 11 (counted true e n)
+  pub take_none : readiness (loaded_phase w d j) ≡ (Ok tt) → eqb (loaded_reads w d j).count 0 ≡ true → TakenAs (Err NoReadWaits) w
+  take_none e n = left NoReadWaits (counted true e n)
 
-  pub take_first : (v : List ℕ) → readiness (loaded_phase w d j) ≡ Ready → eqb (loaded_reads w d j).count 0 ≡ false → rnic_at v ≡ with_stream_of b d j (with_reads s (popped_reads (loaded_reads w d j))) → TakenAs (Read (first_read (loaded_reads w d j))) v
+  pub take_first : (v : List ℕ) → readiness (loaded_phase w d j) ≡ (Ok tt) → eqb (loaded_reads w d j).count 0 ≡ false → rnic_at v ≡ with_stream_of b d j (with_reads s (popped_reads (loaded_reads w d j))) → TakenAs (Ok (first_read (loaded_reads w d j))) v
   take_first v e n stored =
       let t = counted false e n in
-      (sym (ap (λ (x : StreamTaken). x.answer) t), stored ∙ sym (ap (λ (x : StreamTaken). with_stream_of b d j x.stream) t))
+      (sym (ap (λ (x : Result ReadRequest LocalRefusal × Stream). x.0) t), stored ∙ sym (ap (λ (x : Result ReadRequest LocalRefusal × Stream). with_stream_of b d j x.1) t))

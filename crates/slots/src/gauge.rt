@@ -5,27 +5,27 @@ ghost use Rattle.rnic.specs.Rnic.{rnic_ticked, rnic_reading};
 ghost use Rattle.block.specs.Device.{rnic_at};
 
 use block::meters::{load_meter, tick_meter};
-use memory::part::Outcome;
-use rnic::ReadingAnswer;
+use meter::gauge::Reading;
+use wire::refusal::LocalRefusal;
 
 // Ticks a domain.
-pub fn tick(words: &mut [u64; 945], number: u64) -> Outcome
-    ensures { (result ≡ (rnic_ticked (rnic_at words.old) number).outcome) × (rnic_at words.new ≡ (rnic_ticked (rnic_at words.old) number).rnic) }
+pub fn tick(words: &mut [u64; 945], number: u64) -> Result<(), LocalRefusal>
+    ensures { (result ≡ (rnic_ticked (rnic_at words.old) number).0) × (rnic_at words.new ≡ (rnic_ticked (rnic_at words.old) number).1) }
 {
     if number <= 3 {
         tick_meter(words, number as usize);
-        return Outcome::Done;
+        return Ok(());
     }
-    Outcome::Refused(1)
+    Err(LocalRefusal::OutOfRange)
 }
 
 // What a domain's gauge reads as.
-pub fn reading(words: &[u64; 945], number: u64) -> ReadingAnswer
+pub fn reading(words: &[u64; 945], number: u64) -> Result<Reading, LocalRefusal>
     ensures { result ≡ rnic_reading (rnic_at words.now) number }
 {
     if number <= 3 {
         let m = load_meter(words, number as usize);
-        return ReadingAnswer::Reads(meter::reading(m));
+        return Ok(meter::reading(m));
     }
-    ReadingAnswer::Refused(1)
+    Err(LocalRefusal::OutOfRange)
 }

@@ -8,6 +8,7 @@
 #![tactic(auto)]
 
 pub mod gauge;
+pub mod place;
 mod sharing;
 pub mod stream;
 pub mod window;

@@ -8,6 +8,7 @@ ghost use Rattle.rnic.specs.Rnic.{domain_at};
 ghost use Rattle.block.specs.Device.{rnic_at};
 ghost use Rattle.block.specs.Exchange.{stream_of};
 
+use crate::place::StreamPlace;
 use block::sends::{load_head, load_sends};
 use block::window::load_window;
 use overlap::{buffers_share, has_write, window_shares};
@@ -17,27 +18,23 @@ fn windows_share(words: &[u64; 945], domain: usize, place: u64, len: u64) -> boo
     requires { domain < 4 }
     ensures { result ≡ windows_share (domain_at (rnic_at words.now) domain).windows place len }
 {
-    let mut shared = false;
-    let mut i: usize = 16;
-    while 0 < i {
-        i -= 1;
+    for i in 0..16 {
         if window_shares(load_window(words, domain, i), place, len) {
-            shared = true;
+            return true;
         }
     }
-    shared
+    false
 }
 
 // Whether a buffer that waits on the stream of a domain's slot does.
-fn slot_shares(words: &[u64; 945], domain: usize, slot: usize, place: u64, len: u64) -> bool
-    requires { (domain < 4) × (slot < 4) }
-    ensures { result ≡ buffers_share (waiting (stream_of (rnic_at words.now) domain slot).sends.buffers) place len }
+fn slot_shares(words: &[u64; 945], at: StreamPlace, place: u64, len: u64) -> bool
+    ensures { result ≡ buffers_share (waiting (stream_of (rnic_at words.now) at.domain at.slot).sends.buffers) place len }
 {
-    let head = load_head(words, domain, slot);
+    let head = load_head(words, at.domain, at.slot);
     if head.count == 0 {
         return false;
     }
-    let sends = load_sends(words, domain, slot);
+    let sends = load_sends(words, at.domain, at.slot);
     buffers_share(sends.buffers, place, len)
 }
 
@@ -46,26 +43,22 @@ fn streams_share(words: &[u64; 945], domain: usize, place: u64, len: u64) -> boo
     requires { domain < 4 }
     ensures { result ≡ streams_share (domain_at (rnic_at words.now) domain).streams place len }
 {
-    let mut shared = false;
-    let mut i: usize = 4;
-    while 0 < i {
-        i -= 1;
-        if slot_shares(words, domain, i, place, len) {
-            shared = true;
+    for i in 0..4 {
+        let at = StreamPlace { domain, slot: i };
+        if slot_shares(words, at, place, len) {
+            return true;
         }
     }
-    shared
+    false
 }
 
 // Whether some of the len bytes from place are a write window's or a waiting buffer's of a domain.
+#[tactic(auto, unfolding(domain::specs::Sharing::domain_shares))]
 pub(crate) fn domain_shares(words: &[u64; 945], domain: usize, place: u64, len: u64) -> bool
     requires { domain < 4 }
     ensures { result ≡ domain_shares (domain_at (rnic_at words.now) domain) place len }
 {
-    if windows_share(words, domain, place, len) {
-        return true;
-    }
-    streams_share(words, domain, place, len)
+    windows_share(words, domain, place, len) || streams_share(words, domain, place, len)
 }
 
 // Whether rights have the write right, and some of the len bytes from place are so.
@@ -79,8 +72,5 @@ pub(crate) fn write_shares(
     requires { domain < 4 }
     ensures { result ≡ both (writes rights) (domain_shares (domain_at (rnic_at words.now) domain) place len) }
 {
-    if has_write(rights) {
-        return domain_shares(words, domain, place, len);
-    }
-    false
+    has_write(rights) && domain_shares(words, domain, place, len)
 }

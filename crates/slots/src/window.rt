@@ -6,46 +6,39 @@ ghost use Rattle.domain.specs.Domain.{domain_registered};
 ghost use Rattle.rnic.specs.Rnic.{domain_at, with_domain, rnic_registered, rnic_live, rnic_free};
 ghost use Rattle.block.specs.Device.{rnic_at};
 
+use crate::place::WindowPlace;
 use crate::sharing::write_shares;
 use block::device::load_part;
 use block::window::{load_live, load_window, store_window};
 use memory::marks::{count, lowest_clear, push};
-use memory::part::Outcome;
 use memory::window::register_in;
-use rnic::Count;
+use wire::refusal::LocalRefusal;
 
 // Registers the window of a domain's slot. Whether it shares a byte with another writer is asked last.
 fn register_slot(
     words: &mut [u64; 945],
-    domain: usize,
-    slot: usize,
+    at: WindowPlace,
     key: u64,
     base: u64,
     len: u64,
     place: u64,
     rights: u64,
-) -> Outcome
-    requires { (domain < 4) × (slot < 16) }
-    ensures { (result ≡ (domain_registered (domain_at (rnic_at words.old) domain) slot key base len place rights).outcome) × (rnic_at words.new ≡ with_domain (rnic_at words.old) domain (domain_registered (domain_at (rnic_at words.old) domain) slot key base len place rights).domain) }
+) -> Result<(), LocalRefusal>
+    ensures { (result ≡ (domain_registered (domain_at (rnic_at words.old) at.domain) at.slot key base len place rights).0) × (rnic_at words.new ≡ with_domain (rnic_at words.old) at.domain (domain_registered (domain_at (rnic_at words.old) at.domain) at.slot key base len place rights).1) }
 {
-    let w = load_window(words, domain, slot);
-    let part = load_part(words, domain);
-    let done = register_in(w, part, key, base, len, place, rights);
-    let outcome = done.outcome;
-    match outcome {
-        Outcome::Done => {}
-        Outcome::Refused(number) => {
-            return Outcome::Refused(number);
-        }
+    let w = load_window(words, at.domain, at.slot);
+    let part = load_part(words, at.domain);
+    let (outcome, window) = register_in(w, part, key, base, len, place, rights);
+    outcome?;
+    if write_shares(words, at.domain, rights, place, len) {
+        return Err(LocalRefusal::SharedByte);
     }
-    if write_shares(words, domain, rights, place, len) {
-        return Outcome::Refused(19);
-    }
-    store_window(words, domain, slot, done.window);
-    Outcome::Done
+    store_window(words, at.domain, at.slot, window);
+    Ok(())
 }
 
 // Registers a window.
+#[tactic(auto, unfolding(rnic::specs::Rnic::rnic_registered))]
 pub fn register(
     words: &mut [u64; 945],
     window: u64,
@@ -54,27 +47,21 @@ pub fn register(
     len: u64,
     place: u64,
     rights: u64,
-) -> Outcome
-    ensures { (result ≡ (rnic_registered (rnic_at words.old) window key base len place rights).outcome) × (rnic_at words.new ≡ (rnic_registered (rnic_at words.old) window key base len place rights).rnic) }
+) -> Result<(), LocalRefusal>
+    ensures { (result ≡ (rnic_registered (rnic_at words.old) window key base len place rights).0) × (rnic_at words.new ≡ (rnic_registered (rnic_at words.old) window key base len place rights).1) }
 {
-    if window <= 63 {
-        let domain = (window / 16) as usize;
-        let slot = (window % 16) as usize;
-        return register_slot(words, domain, slot, key, base, len, place, rights);
-    }
-    Outcome::Refused(1)
+    let at = WindowPlace::of(window).ok_or(LocalRefusal::OutOfRange)?;
+    register_slot(words, at, key, base, len, place, rights)
 }
 
-// The live marks of a domain's windows, bit i for slot i.
+// The live marks of a domain's windows, bit i for slot i: the last slot's goes in first.
 fn load_marks(words: &[u64; 945], domain: usize) -> u16
     requires { domain < 4 }
     ensures { result ≡ live_marks (domain_at (rnic_at words.now) domain).windows }
 {
-    let mut marks: u16 = 0;
-    let mut i: usize = 16;
-    while 0 < i {
-        i -= 1;
-        marks = push(marks, load_live(words, domain, i));
+    let mut marks = 0;
+    for i in 0..16 {
+        marks = push(marks, load_live(words, domain, 15 - i));
     }
     marks
 }
@@ -88,13 +75,14 @@ fn count_live(words: &[u64; 945], domain: usize) -> u32
 }
 
 // How many windows of a domain are live; a number over 3 is refused.
-pub fn live_count(words: &[u64; 945], number: u64) -> Count
+#[tactic(auto, unfolding(rnic::specs::Rnic::rnic_live))]
+pub fn live_count(words: &[u64; 945], number: u64) -> Result<u32, LocalRefusal>
     ensures { result ≡ rnic_live (rnic_at words.now) number }
 {
     if number <= 3 {
-        return Count::Counted(count_live(words, number as usize));
+        return Ok(count_live(words, number as usize));
     }
-    Count::Refused(1)
+    Err(LocalRefusal::OutOfRange)
 }
 
 // The lowest slot of a domain whose window is dead, 16 where none is.
@@ -106,11 +94,12 @@ fn find_free(words: &[u64; 945], domain: usize) -> u32
 }
 
 // Which of a domain's sixteen slots is the lowest free, 16 if none; a number over 3 is refused.
-pub fn lowest_free(words: &[u64; 945], number: u64) -> Count
+#[tactic(auto, unfolding(rnic::specs::Rnic::rnic_free))]
+pub fn lowest_free(words: &[u64; 945], number: u64) -> Result<u32, LocalRefusal>
     ensures { result ≡ rnic_free (rnic_at words.now) number }
 {
     if number <= 3 {
-        return Count::Counted(find_free(words, number as usize));
+        return Ok(find_free(words, number as usize));
     }
-    Count::Refused(1)
+    Err(LocalRefusal::OutOfRange)
 }

@@ -1,73 +1,56 @@
 // The command `agree`: what a responder answers to the terms of a request.
-ghost use Rattle.std.specs.Prelude.{◌≡◌, ◌≤◌, length};
-ghost use Rattle.command.specs.Args.{words_at};
+ghost use Rattle.std.specs.Prelude.{◌≡◌};
+ghost use Rattle.command.specs.Args.{words_of};
 ghost use Rattle.starting.specs.Starting.{agree_answer};
 
-use crate::said::{Said, numbers_said, terms_said, then_terms};
-use command::answer::{bad, first, refused};
-use command::args::{Words, word};
+use crate::said::{numbers_said, terms_said, then_terms};
+use command::answer::{bad, refused};
+use command::args::Words;
+use script::text::Text;
 use startup2::agree::answer;
-use startup2::{Answered, Terms};
-
-// What a line is answered: what the responder answers, or that it is no such command.
-#[derive(Drop)]
-pub enum Agreement {
-    Answer(Answered),
-    Bad,
-}
+use startup2::{Agreed, Terms};
+use wire::refusal::LocalRefusal;
 
 // `agree IRD ORD KINDS A PEER-IRD PEER-ORD PEER-KINDS`: ours first, of which A is the request's to say.
-pub fn answer_agree(line: &[u8], words: Words) -> Agreement
-    ensures { result ≡ agree_answer (words_at line.now words) }
+// What the responder answers, where a line is such a command.
+#[tactic(auto, unfolding(crate::specs::Starting::agree_answer))]
+pub fn answer_agree(words: &Words) -> Option<Result<Agreed, LocalRefusal>>
+    ensures { result ≡ agree_answer (words_of words.now) }
 {
-    if words.count != 8 {
-        return Agreement::Bad;
+    if words.len() != 8 {
+        return None;
     }
-    let Said::Terms(own) = numbers_said(
-        false,
-        word(line, words, 1),
-        word(line, words, 2),
-        word(line, words, 3),
-    ) else {
-        return Agreement::Bad;
-    };
-    let Said::Terms(request) = terms_said(line, words) else {
-        return Agreement::Bad;
-    };
-    Agreement::Answer(answer(own, request))
+    let own = numbers_said(false, words.word(1), words.word(2), words.word(3))?;
+    let request = terms_said(words)?;
+    Some(answer(own, request))
 }
 
 // `agreed A IRD ORD KINDS`: the terms of the reply.
-fn agreed(reply: Terms, text: &mut [u8]) -> usize
-    ensures { result ≤ length text.old }
-{
-    let at = first(b"agreed", text);
-    then_terms(reply, text, at)
+fn agreed<const N: usize>(reply: Terms, text: &mut Text<N>) {
+    text.put(b"agreed");
+    then_terms(reply, text);
 }
 
 // What the responder answers, in words.
-fn tell_answered(answered: Answered, text: &mut [u8]) -> usize
-    ensures { result ≤ length text.old }
-{
+fn tell_answered<const N: usize>(answered: Result<Agreed, LocalRefusal>, text: &mut Text<N>) {
     match answered {
-        Answered::Refused(number) => refused(number, text),
-        Answered::Agreed { reply, ord: _ } => agreed(reply, text),
+        Ok(Agreed { reply, .. }) => agreed(reply, text),
+        Err(refusal) => refused(refusal.number(), text),
     }
 }
 
-// Puts an answer into text, and answers its length.
-pub fn tell_agree(agreement: Agreement, text: &mut [u8]) -> usize
-    ensures { result ≤ length text.old }
-{
+// Puts an answer into text.
+pub fn tell_agree<const N: usize>(
+    agreement: Option<Result<Agreed, LocalRefusal>>,
+    text: &mut Text<N>,
+) {
     match agreement {
-        Agreement::Answer(answered) => tell_answered(answered, text),
-        Agreement::Bad => bad(text),
+        Some(answered) => tell_answered(answered, text),
+        None => bad(text),
     }
 }
 
 // Answers a line.
-pub fn run(line: &[u8], words: Words, text: &mut [u8]) -> usize
-    ensures { result ≤ length text.old }
-{
-    tell_agree(answer_agree(line, words), text)
+pub fn run<const N: usize>(words: &Words, text: &mut Text<N>) {
+    tell_agree(answer_agree(words), text)
 }

@@ -6,35 +6,31 @@
 // `startup2`.
 #![tactic(auto)]
 
-ghost use Rattle.std.specs.Prelude.{◌≡◌, ◌≤◌, length};
+ghost use Rattle.std.specs.Prelude.{◌≡◌};
 ghost use Rattle.starting.specs.Starting.{is_start};
 
-use command::args::{Words, word};
-use wire::copy::same;
+use command::args::Words;
+use script::text::Text;
 
 pub mod agree;
 pub mod frame;
 pub mod said;
 
 // Whether a line of that first word is one of these commands.
+#[tactic(auto, using(script::proofs::Same::equal_same), unfolding(crate::specs::Starting::is_start))]
 pub fn is_start(name: &[u8]) -> bool
     ensures { result ≡ is_start name.now }
 {
-    if same(name, b"startup2") {
-        return true;
-    }
-    if same(name, b"unstartup2") {
-        return true;
-    }
-    same(name, b"agree")
+    name == b"startup2".as_slice()
+        || name == b"unstartup2".as_slice()
+        || name == b"agree".as_slice()
 }
 
 // Answers a line.
-pub fn run(line: &[u8], words: Words, bytes: &mut [u8], frame: &mut [u8], text: &mut [u8]) -> usize
-    ensures { result ≤ length text.old }
-{
-    if same(word(line, words, 0), b"agree") {
-        return agree::run(line, words, text);
+pub fn run<const N: usize>(words: &Words, bytes: &mut [u8], frame: &mut [u8], text: &mut Text<N>) {
+    if words.word(0) == b"agree".as_slice() {
+        agree::run(words, text);
+    } else {
+        frame::run(words, bytes, frame, text);
     }
-    frame::run(line, words, bytes, frame, text)
 }

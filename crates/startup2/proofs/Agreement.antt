@@ -10,11 +10,13 @@ use borrow.Author.Tests.{leb-true, le-leb, eqb-true, eqb-false}
 use Rattle.wire.specs.Wire.{pick, both}
 use Rattle.wire.proofs.Laws.{both_true}
 use Rattle.startup2.specs.declared.Terms.{Terms}
-use Rattle.startup2.specs.declared.Answered.{Answered}
-use Rattle.startup2.specs.declared.Settled.{Settled}
+use Rattle.startup2.specs.declared.Agreed.{Agreed}
 use Rattle.startup2.specs.Terms.{max_depth, terms_fit, kinds_of, said_of}
 use Rattle.startup2.specs.Agree.{reaches, capped_of, sends, writes, reads, kind_of, told_of, reply_of, unanswerable, answered_of, unsettled, kept_of, settled_of}
 use Rattle.startup2.proofs.Fits.{Fit, fit}
+use Rattle.std.specs.Prelude.{Err, Ok, Result}
+use Rattle.wire.specs.declared.refusal.LocalRefusal.{LocalRefusal}
+use Rattle.wire.specs.declared.refusal.LocalRefusal.TheVariants.{IrdTooSmall, NoKind, OutOfRange}
 
 -- what an answer tells
 pub record Answer (own request reply : Terms) (ord : ℕ) : Type 0 where
@@ -25,21 +27,22 @@ pub record Answer (own request reply : Terms) (ord : ℕ) : Type 0 where
   pub reply_is : reply_of own request ≡ reply
   pub ord_is : capped_of own.ord request.ird ≡ ord
 
-pub answer_of_lem : (own request reply : Terms) (ord : ℕ) → answered_of own request ≡ Answered.Agreed reply ord → Answer own request reply ord
+pub answer_of_lem : (own request reply : Terms) (ord : ℕ) → answered_of own request ≡ Ok (record { reply = reply; ord = ord }) → Answer own request reply ord
 unfolding answered_of
 answer_of_lem own request reply ord = fitted (both (terms_fit own) (terms_fit request)) refl
   where
-    kinded : (b : Bool) → unanswerable own request ≡ b → pick b (Answered.Refused 41) (Answered.Agreed (reply_of own request) (capped_of own.ord request.ird)) ≡ Answered.Agreed reply ord → both (terms_fit own) (terms_fit request) ≡ true → reaches own.ird request.ord ≡ true → Answer own request reply ord
+    kinded : (b : Bool) → unanswerable own request ≡ b → pick {A = Result Agreed LocalRefusal} b (Err NoKind) (Ok (record { reply = (reply_of own request); ord = (capped_of own.ord request.ird) })) ≡ Ok (record { reply = reply; ord = ord }) → both (terms_fit own) (terms_fit request) ≡ true → reaches own.ird request.ord ≡ true → Answer own request reply ord
     kinded true k e f r = absurd (let z : ◌≡◌ {A = ℕ} 0 1 = cc in omega arith)
     kinded false k e f r =
         let a = both_true (terms_fit own) (terms_fit request) f in
-        record { fits = a.0; asked = a.1; reached = r; kind = k; reply_is = cc; ord_is = cc }
+        let z : ◌≡◌ {A = Agreed} (record { reply = reply_of own request; ord = capped_of own.ord request.ird }) (record { reply = reply; ord = ord }) = cc in
+        record { fits = a.0; asked = a.1; reached = r; kind = k; reply_is = ap (λ (x : Agreed). x.reply) z; ord_is = ap (λ (x : Agreed). x.ord) z }
 
-    reached : (b : Bool) → reaches own.ird request.ord ≡ b → pick b (pick (unanswerable own request) (Answered.Refused 41) (Answered.Agreed (reply_of own request) (capped_of own.ord request.ird))) (Answered.Refused 40) ≡ Answered.Agreed reply ord → both (terms_fit own) (terms_fit request) ≡ true → Answer own request reply ord
+    reached : (b : Bool) → reaches own.ird request.ord ≡ b → pick b (pick {A = Result Agreed LocalRefusal} (unanswerable own request) (Err NoKind) (Ok (record { reply = (reply_of own request); ord = (capped_of own.ord request.ird) }))) (Err IrdTooSmall) ≡ Ok (record { reply = reply; ord = ord }) → both (terms_fit own) (terms_fit request) ≡ true → Answer own request reply ord
     reached true r e f = kinded (unanswerable own request) refl e f r
     reached false r e f = absurd (let z : ◌≡◌ {A = ℕ} 0 1 = cc in omega arith)
 
-    fitted : (b : Bool) → both (terms_fit own) (terms_fit request) ≡ b → pick b (pick (reaches own.ird request.ord) (pick (unanswerable own request) (Answered.Refused 41) (Answered.Agreed (reply_of own request) (capped_of own.ord request.ird))) (Answered.Refused 40)) (Answered.Refused 1) ≡ Answered.Agreed reply ord → Answer own request reply ord
+    fitted : (b : Bool) → both (terms_fit own) (terms_fit request) ≡ b → pick b (pick (reaches own.ird request.ord) (pick {A = Result Agreed LocalRefusal} (unanswerable own request) (Err NoKind) (Ok (record { reply = (reply_of own request); ord = (capped_of own.ord request.ird) }))) (Err IrdTooSmall)) (Err OutOfRange) ≡ Ok (record { reply = reply; ord = ord }) → Answer own request reply ord
     fitted true f e = reached (reaches own.ird request.ord) refl e f
     fitted false f e = absurd (let z : ◌≡◌ {A = ℕ} 0 1 = cc in omega arith)
 
@@ -182,7 +185,7 @@ answers_settle true k m e = ap (λ (x : ℕ). eqb x 0) (answers-again true k m) 
 answers_settle false k m e = refl
 
 -- an initiator that said its terms, and a responder's answer to them
-module _ (initiator responder reply : Terms) (ord : ℕ) (f : terms_fit initiator ≡ true) (q : answered_of responder (said_of initiator) ≡ Answered.Agreed reply ord) where
+module _ (initiator responder reply : Terms) (ord : ℕ) (f : terms_fit initiator ≡ true) (q : answered_of responder (said_of initiator) ≡ Ok (record { reply = reply; ord = ord })) where
   a : Answer responder (said_of initiator) reply ord
   a = answer_of_lem responder (said_of initiator) reply ord q
 
@@ -230,15 +233,15 @@ module _ (initiator responder reply : Terms) (ord : ℕ) (f : terms_fit initiato
       ap₂ (λ (o k : ℕ). record { peer = initiator.peer; ird = initiator.ird; ord = o; kinds = k }) (kept_ord responder.ird initiator.ord a.reached)
       (answers-again initiator.peer initiator.kinds responder.kinds)
 
-  settled : settled_of initiator said ≡ Settled.Agreed (record { peer = initiator.peer; ird = initiator.ird; ord = initiator.ord; kinds = said.kinds })
+  settled : settled_of initiator said ≡ Ok (record { peer = initiator.peer; ird = initiator.ird; ord = initiator.ord; kinds = said.kinds })
   unfolding settled_of
   settled =
-      let last : Settled = pick (unsettled initiator said) (Settled.Refused 41) (Settled.Agreed (kept_of initiator said)) in
-      ap (λ (b : Bool). pick b (pick (reaches initiator.ird said.ord) last (Settled.Refused 40)) (Settled.Refused 1)) (ap₂ both f said_fits)
-      ∙ ap (λ (b : Bool). pick b last (Settled.Refused 40)) (told_reached initiator.ird responder.ord)
-      ∙ ap (λ (b : Bool). pick b (Settled.Refused 41) (Settled.Agreed (kept_of initiator said))) (answers_settle initiator.peer initiator.kinds responder.kinds a.kind)
-      ∙ ap Settled.Agreed kept
+      let last : (Result Terms LocalRefusal) = pick (unsettled initiator said) (Err NoKind) (Ok (kept_of initiator said)) in
+      ap (λ (b : Bool). pick b (pick (reaches initiator.ird said.ord) last (Err IrdTooSmall)) (Err OutOfRange)) (ap₂ both f said_fits)
+      ∙ ap (λ (b : Bool). pick b last (Err IrdTooSmall)) (told_reached initiator.ird responder.ord)
+      ∙ ap (λ (b : Bool). pick b (Err NoKind) (Ok (kept_of initiator said))) (answers_settle initiator.peer initiator.kinds responder.kinds a.kind)
+      ∙ ap Ok kept
 
   -- it settles by it: its depths stay as they were, and its first message is of the reply's kind
-  pub settles : settled_of initiator reply ≡ Settled.Agreed (record { peer = initiator.peer; ird = initiator.ird; ord = initiator.ord; kinds = reply.kinds })
-  settles = subst (λ (t : Terms). settled_of initiator t ≡ Settled.Agreed (record { peer = initiator.peer; ird = initiator.ird; ord = initiator.ord; kinds = t.kinds })) a.reply_is settled
+  pub settles : settled_of initiator reply ≡ Ok (record { peer = initiator.peer; ird = initiator.ird; ord = initiator.ord; kinds = reply.kinds })
+  settles = subst (λ (t : Terms). settled_of initiator t ≡ Ok (record { peer = initiator.peer; ird = initiator.ird; ord = initiator.ord; kinds = t.kinds })) a.reply_is settled

@@ -12,15 +12,18 @@ use Rattle.wire.specs.Wire.{pick, both, part, be16, be16_at}
 use Rattle.wire.proofs.Laws.{Bytes, be16-be16_at, part-add, part-one, length_part, same-eq}
 use Rattle.mpa.specs.Startup.{key_of, flag_m, flag_c, flag_r, startup_read}
 use Rattle.mpa.specs.declared.StartupRead.{StartupRead}
-use Rattle.mpa.specs.declared.StartupRead.TheVariants.{Wait as Wait1, Refused as Refused1, Taken as Taken1}
+use Rattle.mpa.specs.declared.StartupRead.TheVariants.{Wait as Wait1, Taken as Taken1}
 use Rattle.mpa.proofs.Startups.{counts, startup_canonical}
 use Rattle.startup2.specs.declared.Terms.{Terms}
 use Rattle.startup2.specs.declared.Form.{Form}
 use Rattle.startup2.specs.declared.FrameRead.{FrameRead}
 use Rattle.startup2.specs.Terms.{terms_of, terms_at}
-use Rattle.startup2.specs.Frame.{flags2_of, startup2_of, frame_of, flag_s, head2_right, whole_of, taken2_of, second_read, first_read, frame_read}
+use Rattle.startup2.specs.Frame.{flags2_of, startup2_of, frame_of, flag_s, head2_right, whole_of, taken2_of, second_read, first_found, frame_read}
 use Rattle.startup2.proofs.Fits.{Head, head, terms_long}
 use Rattle.startup2.proofs.Halves.{Idle, terms_again}
+use Rattle.std.specs.Prelude.{Err, Ok, Result}
+use Rattle.wire.specs.declared.refusal.LocalRefusal.{LocalRefusal}
+use Rattle.wire.specs.declared.refusal.LocalRefusal.TheVariants.{BadStartup, Markers}
 
 -- a whole frame of revision 2
 pub record Second (reply : Bool) (bytes : List ℕ) : Type 0 where
@@ -31,7 +34,7 @@ pub record Second (reply : Bool) (bytes : List ℕ) : Type 0 where
 
 -- a frame that is taken is of revision 2, or one that the reader for revision 1 takes
 pub data Found (reply : Bool) (bytes : List ℕ) (t : ℕ) (c r : Bool) (form : Form) (s n : ℕ) : Type 0 where
-  older : form ≡ Form.First → startup_read reply bytes ≡ Taken1 t c r s n → Found reply bytes t c r form s n
+  older : form ≡ Form.First → startup_read reply bytes ≡ Ok (Taken1 t c r s n) → Found reply bytes t c r form s n
   newer : Second reply bytes → whole_of reply bytes ≡ FrameRead.Taken t c r form s n → Found reply bytes t c r form s n
 
 module _ (reply : Bool) (bytes : List ℕ) (t : ℕ) (c r : Bool) (form : Form) (s n : ℕ) where
@@ -41,38 +44,38 @@ module _ (reply : Bool) (bytes : List ℕ) (t : ℕ) (c r : Bool) (form : Form) 
   abbrev m : ℕ
   m = be16_at bytes 18
 
-  abbrev taken : FrameRead
-  taken = FrameRead.Taken t c r form s n
+  abbrev taken : Result FrameRead LocalRefusal
+  taken = Ok (FrameRead.Taken t c r form s n)
 
   pub found : frame_read reply bytes ≡ taken → Found reply bytes t c r form s n
   unfolding frame_read second_read taken2_of
   found = enough (ltb (length bytes) 20) refl
     where
-      there : (b : Bool) → ltb (length bytes) (20 + m) ≡ b → pick b (FrameRead.Wait (20 + m)) (whole_of reply bytes) ≡ taken → get_or bytes 17 0 ≡ 2 → head2_right reply bytes ≡ true → f < 128 → Found reply bytes t c r form s n
+      there : (b : Bool) → ltb (length bytes) (20 + m) ≡ b → Ok (pick b (FrameRead.Wait (20 + m)) (whole_of reply bytes)) ≡ taken → get_or bytes 17 0 ≡ 2 → head2_right reply bytes ≡ true → f < 128 → Found reply bytes t c r form s n
       there true e q v h k = absurd (let z : ◌≡◌ {A = ℕ} 0 1 = cc in omega arith)
-      there false e q v h k = newer (record { revision = v; head = head reply bytes h; unmarked = k; whole = ltb-false (length bytes) (20 + m) e }) q
+      there false e q v h k = newer (record { revision = v; head = head reply bytes h; unmarked = k; whole = ltb-false (length bytes) (20 + m) e }) (cc)
 
-      clear : (b : Bool) → flag_m f ≡ b → pick b (FrameRead.Refused 15) (taken2_of reply bytes) ≡ taken → get_or bytes 17 0 ≡ 2 → head2_right reply bytes ≡ true → Found reply bytes t c r form s n
+      clear : (b : Bool) → flag_m f ≡ b → pick b (Err Markers) (Ok (taken2_of reply bytes)) ≡ taken → get_or bytes 17 0 ≡ 2 → head2_right reply bytes ≡ true → Found reply bytes t c r form s n
       clear true e q v h = absurd (let z : ◌≡◌ {A = ℕ} 0 1 = cc in omega arith)
       clear false e q v h = there (ltb (length bytes) (20 + m)) refl q v h (leb-false 0x80 f e)
 
-      headed : (b : Bool) → head2_right reply bytes ≡ b → pick b (pick (flag_m f) (FrameRead.Refused 15) (taken2_of reply bytes)) (FrameRead.Refused 14) ≡ taken → get_or bytes 17 0 ≡ 2 → Found reply bytes t c r form s n
+      headed : (b : Bool) → head2_right reply bytes ≡ b → pick b (pick (flag_m f) (Err Markers) (Ok (taken2_of reply bytes))) (Err BadStartup) ≡ taken → get_or bytes 17 0 ≡ 2 → Found reply bytes t c r form s n
       headed true e q v = clear (flag_m f) refl q v e
       headed false e q v = absurd (let z : ◌≡◌ {A = ℕ} 0 1 = cc in omega arith)
 
-      first : (x : StartupRead) → startup_read reply bytes ≡ x → first_read x ≡ taken → Found reply bytes t c r form s n
-      first (Wait1 k) e q = absurd (let z : ◌≡◌ {A = ℕ} 0 1 = cc in omega arith)
-      first (Refused1 k) e q = absurd (let z : ◌≡◌ {A = ℕ} 0 1 = cc in omega arith)
-      first (Taken1 t' c' r' s' n') e q =
+      first : (x : Result StartupRead LocalRefusal) → startup_read reply bytes ≡ x → first_found x ≡ taken → Found reply bytes t c r form s n
+      first (Ok (Wait1 k)) e q = absurd (let z : ◌≡◌ {A = ℕ} 0 1 = cc in omega arith)
+      first (Err k) e q = absurd (let z : ◌≡◌ {A = ℕ} 0 1 = cc in omega arith)
+      first (Ok (Taken1 t' c' r' s' n')) e q =
           let d : form ≡ Form.First = cc in
-          let z : Taken1 t' c' r' s' n' ≡ Taken1 t c r s n = cc in
+          let z : ◌≡◌ {A = Result StartupRead LocalRefusal} (Ok (Taken1 t' c' r' s' n')) (Ok (Taken1 t c r s n)) = cc in
           older d (e ∙ z)
 
-      revised : (b : Bool) → eqb (get_or bytes 17 0) 2 ≡ b → pick b (second_read reply bytes) (first_read (startup_read reply bytes)) ≡ taken → Found reply bytes t c r form s n
+      revised : (b : Bool) → eqb (get_or bytes 17 0) 2 ≡ b → pick b (second_read reply bytes) (first_found (startup_read reply bytes)) ≡ taken → Found reply bytes t c r form s n
       revised true e q = headed (head2_right reply bytes) refl q (eqb-true (get_or bytes 17 0) 2 e)
       revised false e q = first (startup_read reply bytes) refl q
 
-      enough : (b : Bool) → ltb (length bytes) 20 ≡ b → pick b (FrameRead.Wait 20) (pick (eqb (get_or bytes 17 0) 2) (second_read reply bytes) (first_read (startup_read reply bytes))) ≡ taken → Found reply bytes t c r form s n
+      enough : (b : Bool) → ltb (length bytes) 20 ≡ b → pick b (Ok (FrameRead.Wait 20)) (pick (eqb (get_or bytes 17 0) 2) (second_read reply bytes) (first_found (startup_read reply bytes))) ≡ taken → Found reply bytes t c r form s n
       enough true e q = absurd (let z : ◌≡◌ {A = ℕ} 0 1 = cc in omega arith)
       enough false e q = revised (eqb (get_or bytes 17 0) 2) refl q
 
@@ -146,12 +149,10 @@ module _ (reply : Bool) (bytes : List ℕ) (b : Bytes bytes) where
   abbrev front : FrameRead → List ℕ
   front (FrameRead.Taken t c r form s n) = take t bytes
   front (FrameRead.Wait n) = []
-  front (FrameRead.Refused k) = []
 
   abbrev again : FrameRead → List ℕ
   again (FrameRead.Taken t c r form s n) = frame_of reply c r form (part bytes s n)
   again (FrameRead.Wait n) = []
-  again (FrameRead.Refused k) = []
 
   module _ (t : ℕ) (c r : Bool) (form : Form) (s n : ℕ) (z : Reserved reply bytes form) where
     abbrev whole : FrameRead
@@ -176,7 +177,7 @@ module _ (reply : Bool) (bytes : List ℕ) (b : Bytes bytes) where
         ∙ ap (λ (x : Bool). startup2_of reply (flag_c (get_or bytes 16 0)) (both reply (flag_r (get_or bytes 16 0))) x (part bytes 20 (be16_at bytes 18))) e
         ∙ ap again q
 
-    pub frame_canonical : frame_read reply bytes ≡ FrameRead.Taken t c r form s n → take t bytes ≡ frame_of reply c r form (part bytes s n)
+    pub frame_canonical : frame_read reply bytes ≡ Ok (FrameRead.Taken t c r form s n) → take t bytes ≡ frame_of reply c r form (part bytes s n)
     frame_canonical q = go (found reply bytes t c r form s n q)
       where
         go : Found reply bytes t c r form s n → take t bytes ≡ frame_of reply c r form (part bytes s n)

@@ -1,21 +1,17 @@
--- What the writers' stores, each where the one before ends, make together, and which case of the answer each form is.
+-- What the writers' stores, each where the one before ends, make together.
 -- Assumes nothing.
 use Prim.Native.Nat.{ℕ, ◌+◌, ◌≤◌, zero-le}
 use mathlib.Core.Bool.{Bool, true, false}
 use mathlib.Core.List.{List, [], ◌∷◌, ◌++◌}
-use mathlib.Core.Path.{◌≡◌, refl, ap, ap₂, ◌∙◌}
+use mathlib.Core.Path.{◌≡◌, ap, ap₂, ◌∙◌}
 use native.Mathlib.Omega.{arith}
 use lib.ListN.{length, set}
 use Rattle.wire.specs.Wire.{put, be16}
-use Rattle.wire.specs.declared.Written.{Written}
-use Rattle.wire.specs.declared.Written.TheVariants.{Refused as NotWritten}
 use Rattle.wire.proofs.Laws.{put-put, set_2, length-put}
-use Rattle.mpa.specs.Fpdu.{out_after}
-use Rattle.mpa.specs.Startup.{key_of, startup_written, startup_out}
+use Rattle.mpa.specs.Startup.{key_of}
 use Rattle.startup2.specs.declared.Terms.{Terms}
-use Rattle.startup2.specs.declared.Form.{Form}
-use Rattle.startup2.specs.Terms.{terms_fit, first_half, second_half, terms_of}
-use Rattle.startup2.specs.Frame.{flags2_of, head_of, startup2_of, frame_written, frame_out}
+use Rattle.startup2.specs.Terms.{first_half, second_half, terms_of}
+use Rattle.startup2.specs.Frame.{flags2_of, head_of, startup2_of}
 
 -- key, flags and revision, length
 pub head_put : (reply : Bool) (f n : ℕ) (l : List ℕ) → 20 ≤ length l → put (set (set (put l 0 (key_of reply)) 16 f) 17 2) 18 (be16 n) ≡ put l 0 (head_of reply f n)
@@ -45,28 +41,3 @@ enhanced_put reply c r f t l priv e =
     ap₂ (λ (x m : ℕ). put (put (put l 0 (head_of reply x m)) 20 (terms_of t)) 24 priv) e size
     ∙ ap (λ (z : List ℕ). put z 24 priv) (put-put l 0 (head_of reply (flags2_of c r true) n) (terms_of t) zero-le)
     ∙ put-put l 0 (head_of reply (flags2_of c r true) n ++ terms_of t) priv zero-le
-
--- ---- which case of the answer a form is
-
-module _ (reply c r : Bool) (form : Form) (priv out last : List ℕ) (w : Written) where
-  pub first_case : form ≡ Form.First → (w ≡ startup_written reply r (length priv) (length out)) × (last ≡ startup_out reply c r priv out) → (w ≡ frame_written reply r form (length priv) (length out)) × (last ≡ frame_out reply c r form priv out)
-  unfolding frame_written frame_out startup_out
-  first_case e g = simp e g
-
-  pub second_case : form ≡ Form.Second →
-      (w ≡ startup_written reply r (length priv) (length out)) × (last ≡ out_after (startup_written reply r (length priv) (length out)) out (startup2_of reply c r false priv)) →
-      (w ≡ frame_written reply r form (length priv) (length out)) × (last ≡ frame_out reply c r form priv out)
-  unfolding frame_written frame_out
-  second_case e g = simp e g
-
-  pub enhanced_case : (t : Terms) → form ≡ Form.Enhanced t → terms_fit t ≡ true →
-      (w ≡ startup_written reply r (4 + length priv) (length out)) × (last ≡ out_after (startup_written reply r (4 + length priv) (length out)) out (startup2_of reply c r true (terms_of t ++ priv))) →
-      (w ≡ frame_written reply r form (length priv) (length out)) × (last ≡ frame_out reply c r form priv out)
-  unfolding frame_written frame_out
-  enhanced_case t e f g = simp (e, f) g
-
--- terms that do not fit are refused
-pub unfit_case : (reply c r : Bool) (form : Form) (priv out : List ℕ) (t : Terms) → form ≡ Form.Enhanced t → terms_fit t ≡ false →
-    (NotWritten 1 ≡ frame_written reply r form (length priv) (length out)) × (out ≡ frame_out reply c r form priv out)
-unfolding frame_written frame_out
-unfit_case reply c r form priv out t e f = simp (e, f) (refl, refl)

@@ -1,10 +1,11 @@
 -- What the two sides agree (RFC 6581, section 9), asked in this order: 1 a number that its field cannot hold, 40, 41.
-use Rattle.std.specs.Prelude.{ℕ, ◌/◌, ◌%◌, min, Bool, true, leb, eqb}
+use Rattle.std.specs.Prelude.{ℕ, ◌/◌, ◌%◌, min, Bool, true, leb, eqb, Err, Ok, Result}
 use Rattle.wire.specs.Wire.{pick, both}
 use Rattle.startup2.specs.declared.Terms.{Terms}
-use Rattle.startup2.specs.declared.Answered.{Answered}
-use Rattle.startup2.specs.declared.Settled.{Settled}
 use Rattle.startup2.specs.Terms.{max_depth, terms_fit, kinds_of}
+use Rattle.startup2.specs.declared.Agreed.{Agreed}
+use Rattle.wire.specs.declared.refusal.LocalRefusal.{LocalRefusal}
+use Rattle.wire.specs.declared.refusal.LocalRefusal.TheVariants.{IrdTooSmall, NoKind, OutOfRange}
 
 -- ---- what both sides ask
 
@@ -51,13 +52,13 @@ abbrev pub unanswerable : Terms → Terms → Bool
 unanswerable own request = both request.peer (eqb (kind_of own.kinds (kinds_of request)) 0)
 
 -- what a responder of these terms answers to a request's; its own A is not looked at
-unfoldable pub answered_of : Terms → Terms → Answered
+unfoldable pub answered_of : Terms → Terms → Result Agreed LocalRefusal
 answered_of own request =
     pick (both (terms_fit own) (terms_fit request))
     (pick (reaches own.ird request.ord)
-    (pick (unanswerable own request) (Answered.Refused 41) (Answered.Agreed (reply_of own request) (capped_of own.ord request.ird)))
-    (Answered.Refused 40))
-    (Answered.Refused 1)
+    (pick (unanswerable own request) (Err NoKind) (Ok (record { reply = (reply_of own request); ord = (capped_of own.ord request.ird) })))
+    (Err IrdTooSmall))
+    (Err OutOfRange)
 
 -- ---- the initiator
 
@@ -76,10 +77,10 @@ kept_of own reply =
     }
 
 -- what an initiator that said these terms makes of a reply's
-unfoldable pub settled_of : Terms → Terms → Settled
+unfoldable pub settled_of : Terms → Terms → Result Terms LocalRefusal
 settled_of own reply =
     pick (both (terms_fit own) (terms_fit reply))
     (pick (reaches own.ird reply.ord)
-    (pick (unsettled own reply) (Settled.Refused 41) (Settled.Agreed (kept_of own reply)))
-    (Settled.Refused 40))
-    (Settled.Refused 1)
+    (pick (unsettled own reply) (Err NoKind) (Ok (kept_of own reply)))
+    (Err IrdTooSmall))
+    (Err OutOfRange)

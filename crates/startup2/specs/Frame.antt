@@ -1,15 +1,15 @@
 -- Startup frames of both revisions (RFC 6581, section 6): those of revision 1 are as RFC 5044 has them.
-use Rattle.std.specs.Prelude.{ℕ, ◌+◌, ◌-◌, ◌/◌, ◌%◌, Bool, true, false, List, ◌∷◌, ◌++◌, length, take, get_or, ltb, leb, eqb}
+use Rattle.std.specs.Prelude.{ℕ, ◌+◌, ◌-◌, ◌/◌, ◌%◌, Bool, true, false, List, ◌∷◌, ◌++◌, length, take, get_or, ltb, leb, eqb, Err, Ok, Result}
 use Rattle.wire.specs.Wire.{pick, both, same, be16, be16_at}
-use Rattle.wire.specs.declared.Written.{Written}
-use Rattle.wire.specs.declared.Written.TheVariants.{Refused as NotWritten}
 use Rattle.mpa.specs.Fpdu.{out_after}
 use Rattle.mpa.specs.Startup.{max_private, key_of, flags_of, flag_m, flag_c, flag_r, startup_of, startup_written, startup_read}
 use Rattle.mpa.specs.declared.StartupRead.{StartupRead}
-use Rattle.mpa.specs.declared.StartupRead.TheVariants.{Wait as Wait1, Refused as Refused1, Taken as Taken1}
+use Rattle.mpa.specs.declared.StartupRead.TheVariants.{Wait as Wait1, Taken as Taken1}
 use Rattle.startup2.specs.declared.Form.{Form}
 use Rattle.startup2.specs.declared.FrameRead.{FrameRead}
 use Rattle.startup2.specs.Terms.{terms_fit, terms_of, terms_at, said_of}
+use Rattle.wire.specs.declared.refusal.LocalRefusal.{LocalRefusal}
+use Rattle.wire.specs.declared.refusal.LocalRefusal.TheVariants.{BadStartup, Markers, OutOfRange}
 
 -- ---- what is written
 
@@ -44,8 +44,8 @@ form_fits Form.Second = true
 form_fits (Form.Enhanced t) = terms_fit t
 
 -- writing one with n bytes of private data behind the terms into room bytes: 1 R asked for in a request, or a number that its field cannot hold; 12 and 13 as in revision 1, with the terms counted
-unfoldable pub frame_written : Bool → Bool → Form → ℕ → ℕ → Written
-frame_written reply r form n room = pick (form_fits form) (startup_written reply r (data_of form n) room) (NotWritten 1)
+unfoldable pub frame_written : Bool → Bool → Form → ℕ → ℕ → Result ℕ LocalRefusal
+frame_written reply r form n room = pick (form_fits form) (startup_written reply r (data_of form n) room) (Err OutOfRange)
 
 unfoldable pub frame_out : Bool → Bool → Bool → Form → List ℕ → List ℕ → List ℕ
 frame_out reply c r form priv out = out_after (frame_written reply r form (length priv) (length out)) out (frame_of reply c r form priv)
@@ -77,23 +77,26 @@ unfoldable pub taken2_of : Bool → List ℕ → FrameRead
 taken2_of reply bytes = pick (ltb (length bytes) (20 + be16_at bytes 18)) (FrameRead.Wait (20 + be16_at bytes 18)) (whole_of reply bytes)
 
 -- 14 and 15 as in revision 1
-unfoldable pub second_read : Bool → List ℕ → FrameRead
+unfoldable pub second_read : Bool → List ℕ → Result FrameRead LocalRefusal
 second_read reply bytes =
     pick (head2_right reply bytes)
-    (pick (flag_m (get_or bytes 16 0)) (FrameRead.Refused 15) (taken2_of reply bytes))
-    (FrameRead.Refused 14)
+    (pick (flag_m (get_or bytes 16 0)) (Err Markers) (Ok (taken2_of reply bytes)))
+    (Err BadStartup)
 
 -- "Revision 1 frames read as before"
 abbrev pub first_read : StartupRead → FrameRead
 first_read (Wait1 n) = FrameRead.Wait n
-first_read (Refused1 k) = FrameRead.Refused k
 first_read (Taken1 total c r start n) = FrameRead.Taken total c r Form.First start n
 
+abbrev pub first_found : Result StartupRead LocalRefusal → Result FrameRead LocalRefusal
+first_found (Ok read) = Ok (first_read read)
+first_found (Err k) = Err k
+
 -- a frame of revision 2, or what the reader for revision 1 says
-unfoldable pub frame_read : Bool → List ℕ → FrameRead
+unfoldable pub frame_read : Bool → List ℕ → Result FrameRead LocalRefusal
 frame_read reply bytes =
-    pick (ltb (length bytes) 20) (FrameRead.Wait 20)
-    (pick (eqb (get_or bytes 17 0) 2) (second_read reply bytes) (first_read (startup_read reply bytes)))
+    pick (ltb (length bytes) 20) (Ok (FrameRead.Wait 20))
+    (pick (eqb (get_or bytes 17 0) 2) (second_read reply bytes) (first_found (startup_read reply bytes)))
 
 -- the form as the other side reads it
 abbrev pub said_form : Form → Form

@@ -22,13 +22,7 @@ const FLAG_A: usize = 0x8000;
 pub fn terms_fit(terms: Terms) -> bool
     ensures { result ≡ terms_fit terms }
 {
-    if terms.ird <= MAX_DEPTH {
-        if terms.ord <= MAX_DEPTH {
-            return terms.kinds <= ALL_KINDS;
-        }
-        return false;
-    }
-    false
+    terms.ird <= MAX_DEPTH && terms.ord <= MAX_DEPTH && terms.kinds <= ALL_KINDS
 }
 
 // The kinds that are said: none where the connection is not peer to peer.
@@ -44,11 +38,8 @@ fn first_half(terms: Terms) -> usize
     ensures { (result ≡ first_half terms) × (result < 65536) }
 {
     let send = (kinds_of(terms) / 4) as usize;
-    let ird = terms.ird as usize;
-    if terms.peer {
-        return FLAG_A + send * FLAG + ird;
-    }
-    send * FLAG + ird
+    let a = if terms.peer { FLAG_A } else { 0 };
+    a + send * FLAG + terms.ird as usize
 }
 
 // C, D and the ORD as a number of 16 bits.
@@ -61,6 +52,7 @@ fn second_half(terms: Terms) -> usize
 }
 
 // Writes the terms into the four bytes from at.
+#[tactic(auto, using(crate::proofs::Puts::terms_put))]
 pub(crate) fn put_terms(terms: Terms, out: &mut [u8], at: usize)
     requires { (terms_fit terms ≡ true) × (at + 4 ≤ length out.old) }
     ensures { out.new ≡ put out.old at (terms_of terms) }
@@ -75,25 +67,22 @@ fn halves_terms(first: usize, second: usize) -> Terms
 {
     let ird = (first % FLAG) as u64;
     let ord = (second % FLAG) as u64;
-    if FLAG_A <= first {
-        let send = first / FLAG % 2 * 4;
-        let others = second / FLAG;
-        return Terms {
-            peer: true,
-            ird,
-            ord,
-            kinds: (send + others) as u64,
-        };
-    }
+    let peer = FLAG_A <= first;
+    let kinds = if peer {
+        (first / FLAG % 2 * 4 + second / FLAG) as u64
+    } else {
+        0
+    };
     Terms {
-        peer: false,
+        peer,
         ird,
         ord,
-        kinds: 0,
+        kinds,
     }
 }
 
 // The terms in the four bytes from at.
+#[tactic(auto, unfolding(crate::specs::Terms::terms_at))]
 pub(crate) fn terms_at(bytes: &[u8], at: usize) -> Terms
     requires { at + 4 ≤ length bytes.now }
     ensures { result ≡ terms_at bytes.now at }

@@ -2,7 +2,6 @@
 // all the private data, the terms where S is set, private data.
 ghost use Rattle.std.specs.Prelude.{◌≡◌, true, false, ◌++◌, ◌+◌, ◌≤◌, ◌<◌, length};
 ghost use Rattle.wire.specs.Wire.{pick, put};
-ghost use Rattle.wire.specs.declared.Written.TheVariants.{Refused};
 ghost use Rattle.mpa.specs.Fpdu.{out_after};
 ghost use Rattle.mpa.specs.Startup.{max_private, startup_written};
 ghost use Rattle.startup2.specs.Terms.{terms_fit, terms_of};
@@ -11,14 +10,12 @@ ghost use Rattle.startup2.specs.Frame.{flags2_of, head_of, startup2_of, frame_wr
 use crate::fields::{put_terms, terms_at, terms_fit};
 use crate::{Form, FrameRead, Terms};
 use mpa::StartupRead;
-use mpa::refusal::{BAD_STARTUP, MARKERS, NO_ROOM, OUT_OF_RANGE, OVER_LIMIT};
 use mpa::startup::{
-    MAX_PRIVATE_DATA, declines, flag_c, flags_of, key_of, read_startup, request_declines,
-    write_startup,
+    MAX_PRIVATE_DATA, admit, declines, flag_c, flags_of, key_of, read_startup, write_startup,
 };
-use wire::Written;
 use wire::copy::{copy, same};
 use wire::number::{get_be16, put_be16};
+use wire::refusal::LocalRefusal;
 
 // The bytes before the private data.
 const HEAD: usize = 20;
@@ -36,24 +33,6 @@ const FLAG_M: u8 = 0x80;
 
 // The flag S: the private data starts with the terms.
 const FLAG_S: u8 = 0x10;
-
-// What a writer of n bytes of private data, terms and all, answers.
-fn admit(reply: bool, declined: bool, n: usize, room: usize) -> Written
-    requires { n + 20 < 18446744073709551616 }
-    ensures { result ≡ startup_written reply declined n room }
-{
-    if request_declines(reply, declined) {
-        return Written::Refused(OUT_OF_RANGE);
-    }
-    if MAX_PRIVATE_DATA < n {
-        return Written::Refused(OVER_LIMIT);
-    }
-    let total = HEAD + n;
-    if room < total {
-        return Written::Refused(NO_ROOM);
-    }
-    Written::Length(total)
-}
 
 // Writes key, flags, revision 2 and the length of the private data to the start of out.
 fn put_head(reply: bool, flags: u8, n: usize, out: &mut [u8])
@@ -74,21 +53,18 @@ fn write_second(
     declined: bool,
     private_data: &[u8],
     out: &mut [u8],
-) -> Written
+) -> Result<usize, LocalRefusal>
     ensures { (result ≡ startup_written reply declined (length private_data.now) (length out.old)) × (out.new ≡ out_after (startup_written reply declined (length private_data.now) (length out.old)) out.old (startup2_of reply crc declined false private_data.now)) }
 {
     let n = private_data.len();
-    match admit(reply, declined, n, out.len()) {
-        Written::Refused(number) => Written::Refused(number),
-        Written::Length(total) => {
-            put_head(reply, flags_of(crc, declined), n, out);
-            copy(out, HEAD, private_data);
-            Written::Length(total)
-        }
-    }
+    let total = admit(reply, declined, n, out.len())?;
+    put_head(reply, flags_of(crc, declined), n, out);
+    copy(out, HEAD, private_data);
+    Ok(total)
 }
 
 // Writes a frame of revision 2 with S and terms to the start of out.
+#[tactic(auto, using(crate::proofs::Fits::flags_small))]
 fn write_enhanced(
     reply: bool,
     crc: bool,
@@ -96,23 +72,20 @@ fn write_enhanced(
     terms: Terms,
     private_data: &[u8],
     out: &mut [u8],
-) -> Written
+) -> Result<usize, LocalRefusal>
     requires { terms_fit terms ≡ true }
     ensures { (result ≡ startup_written reply declined (4 + length private_data.now) (length out.old)) × (out.new ≡ out_after (startup_written reply declined (4 + length private_data.now) (length out.old)) out.old (startup2_of reply crc declined true (terms_of terms ++ private_data.now))) }
 {
     let n = TERMS + private_data.len();
-    match admit(reply, declined, n, out.len()) {
-        Written::Refused(number) => Written::Refused(number),
-        Written::Length(total) => {
-            put_head(reply, flags_of(crc, declined) + FLAG_S, n, out);
-            put_terms(terms, out, HEAD);
-            copy(out, HEAD_AND_TERMS, private_data);
-            Written::Length(total)
-        }
-    }
+    let total = admit(reply, declined, n, out.len())?;
+    put_head(reply, flags_of(crc, declined) + FLAG_S, n, out);
+    put_terms(terms, out, HEAD);
+    copy(out, HEAD_AND_TERMS, private_data);
+    Ok(total)
 }
 
 // Writes a startup frame of a form to the start of out.
+#[tactic(auto, unfolding(crate::specs::Frame::frame_written, crate::specs::Frame::frame_out, mpa::specs::Startup::startup_out))]
 pub fn write_frame(
     reply: bool,
     crc: bool,
@@ -120,18 +93,16 @@ pub fn write_frame(
     form: Form,
     private_data: &[u8],
     out: &mut [u8],
-) -> Written
+) -> Result<usize, LocalRefusal>
     ensures { (result ≡ frame_written reply declined form (length private_data.now) (length out.old)) × (out.new ≡ frame_out reply crc declined form private_data.now out.old) }
 {
     match form {
         Form::First => write_startup(reply, crc, declined, private_data, out),
         Form::Second => write_second(reply, crc, declined, private_data, out),
-        Form::Enhanced(terms) => {
-            if terms_fit(terms) {
-                return write_enhanced(reply, crc, declined, terms, private_data, out);
-            }
-            Written::Refused(OUT_OF_RANGE)
+        Form::Enhanced(terms) if terms_fit(terms) => {
+            write_enhanced(reply, crc, declined, terms, private_data, out)
         }
+        Form::Enhanced(_) => Err(LocalRefusal::OutOfRange),
     }
 }
 
@@ -146,7 +117,7 @@ fn flag_s(flags: u8) -> bool
 fn terms_there(flags: u8, n: usize) -> bool
     ensures { result ≡ terms_there flags n }
 {
-    if flag_s(flags) { TERMS <= n } else { true }
+    !flag_s(flags) || TERMS <= n
 }
 
 // Whether the head of a frame of revision 2 has the key expected, and a length within the limit that has room
@@ -156,17 +127,12 @@ fn head_right(reply: bool, bytes: &[u8]) -> bool
     ensures { result ≡ head2_right reply bytes.now }
 {
     let key = key_of(reply);
-    if same(&bytes[..16], &key) {
-        let n = get_be16(bytes, 18);
-        if n <= MAX_PRIVATE_DATA {
-            return terms_there(bytes[16], n);
-        }
-        return false;
-    }
-    false
+    let n = get_be16(bytes, 18);
+    same(&bytes[..16], &key) && n <= MAX_PRIVATE_DATA && terms_there(bytes[16], n)
 }
 
 // What the frame of revision 2 is once its head is right.
+#[tactic(auto, unfolding(crate::specs::Frame::taken2_of))]
 fn taken(reply: bool, bytes: &[u8]) -> FrameRead
     requires { (20 ≤ length bytes.now) × (head2_right reply bytes.now ≡ true) }
     ensures { result ≡ taken2_of reply bytes.now }
@@ -198,17 +164,18 @@ fn taken(reply: bool, bytes: &[u8]) -> FrameRead
 }
 
 // What the frame of revision 2 at the start of bytes is.
-fn read_second(reply: bool, bytes: &[u8]) -> FrameRead
+#[tactic(auto, unfolding(crate::specs::Frame::second_read))]
+fn read_second(reply: bool, bytes: &[u8]) -> Result<FrameRead, LocalRefusal>
     requires { 20 ≤ length bytes.now }
     ensures { result ≡ second_read reply bytes.now }
 {
-    if head_right(reply, bytes) {
-        if FLAG_M <= bytes[16] {
-            return FrameRead::Refused(MARKERS);
-        }
-        return taken(reply, bytes);
+    if !head_right(reply, bytes) {
+        return Err(LocalRefusal::BadStartup);
     }
-    FrameRead::Refused(BAD_STARTUP)
+    if FLAG_M <= bytes[16] {
+        return Err(LocalRefusal::Markers);
+    }
+    Ok(taken(reply, bytes))
 }
 
 // What the reader for revision 1 says, as this one says it.
@@ -217,7 +184,6 @@ fn first_read(read: StartupRead) -> FrameRead
 {
     match read {
         StartupRead::Wait(n) => FrameRead::Wait(n),
-        StartupRead::Refused(number) => FrameRead::Refused(number),
         StartupRead::Taken {
             total,
             crc,
@@ -236,14 +202,15 @@ fn first_read(read: StartupRead) -> FrameRead
 }
 
 // What the startup frame at the start of bytes is, of a request or a reply as told, of either revision.
-pub fn read_frame(reply: bool, bytes: &[u8]) -> FrameRead
+#[tactic(auto, unfolding(crate::specs::Frame::frame_read))]
+pub fn read_frame(reply: bool, bytes: &[u8]) -> Result<FrameRead, LocalRefusal>
     ensures { result ≡ frame_read reply bytes.now }
 {
     if bytes.len() < HEAD {
-        return FrameRead::Wait(HEAD);
+        return Ok(FrameRead::Wait(HEAD));
     }
     if bytes[17] == REVISION {
         return read_second(reply, bytes);
     }
-    first_read(read_startup(reply, bytes))
+    Ok(first_read(read_startup(reply, bytes)?))
 }

@@ -9,11 +9,11 @@
 pub mod agree;
 pub mod fields;
 pub mod frame;
-pub mod refusal;
 
 // What a side says of itself: whether the connection is peer to peer (A), how many reads it takes at a time
 // (IRD) and makes at a time (ORD), and the kinds of a first message that it can do: 4 for Send (B), 2 for Write
 // (C) and 1 for Read (D), added. 0x3FFF for a depth says that it is not negotiated here.
+// Kept: numbers, as the C interface has them (`rnic_terms` of include/rnic.h), where one that is too high is refused by 1.
 #[derive(Clone, Copy)]
 pub struct Terms {
     pub peer: bool,
@@ -31,13 +31,12 @@ pub enum Form {
     Enhanced(Terms),
 }
 
-// What the startup frame at the start of some bytes is: not whole yet, with the number of bytes to wait for;
-// refused; or whole, with its length, C, R of a reply, its form, and where the private data lies, behind the
-// terms where there are any.
+// What the startup frame at the start of some bytes is: not whole yet, with the number of bytes to wait for; or
+// whole, with its length, C, R of a reply, its form, and where the private data lies, behind the terms where
+// there are any.
 #[derive(Drop)]
 pub enum FrameRead {
     Wait(usize),
-    Refused(u8),
     Taken {
         total: usize,
         crc: bool,
@@ -48,18 +47,10 @@ pub enum FrameRead {
     },
 }
 
-// What a responder answers to a request's terms: a refusal, or the terms that its reply says, with the ORD
-// that it keeps to. Its IRD stays its own.
+// What a responder answers to a request's terms: the terms that its reply says, with the ORD that it keeps to.
+// Its IRD stays its own.
 #[derive(Drop)]
-pub enum Answered {
-    Refused(u8),
-    Agreed { reply: Terms, ord: u64 },
-}
-
-// What an initiator makes of a reply's terms: a refusal, or the terms that it keeps to, with the one kind that
-// it sends first, 0 where the connection is not peer to peer.
-#[derive(Drop)]
-pub enum Settled {
-    Refused(u8),
-    Agreed(Terms),
+pub struct Agreed {
+    pub reply: Terms,
+    pub ord: u64,
 }

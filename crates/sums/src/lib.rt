@@ -5,33 +5,26 @@
 // in `crc32c`.
 #![tactic(auto)]
 
-ghost use Rattle.std.specs.Prelude.{◌≡◌, ◌≤◌, length};
-ghost use Rattle.command.specs.Args.{words_at};
+ghost use Rattle.std.specs.Prelude.{◌≡◌, length};
+ghost use Rattle.command.specs.Args.{words_of};
 ghost use Rattle.sums.specs.Sums.{is_sum, crc_on, crc_word, whole_sum, carried_sum, joined_sum, crc_answer, join_answer, sum_answer};
 
-use command::answer::{bad, first, then_hex};
-use command::args::{Words, hex_into, word};
+use command::answer::bad;
+use command::args::Words;
 use crc32c::shift::join;
 use crc32c::{crc32c, update};
-use script::number::{Number, read_number};
-use wire::copy::same;
-use wire::number::{get_be32, put_be32};
-
-// A CRC, as a word says it or as a line is answered; Bad where there is none.
-#[derive(Drop)]
-pub enum Sum {
-    Crc(u32),
-    Bad,
-}
+use script::hex::decode;
+use script::number::read_number;
+use script::text::Text;
+use std::fmt::Write;
+use wire::number::get_be32;
 
 // Whether a line of that first word is one of these commands.
+#[tactic(auto, using(script::proofs::Same::equal_same), unfolding(crate::specs::Sums::is_sum))]
 pub fn is_sum(name: &[u8]) -> bool
     ensures { result ≡ is_sum name.now }
 {
-    if same(name, b"crc") {
-        return true;
-    }
-    same(name, b"join")
+    name == b"crc".as_slice() || name == b"join".as_slice()
 }
 
 // The CRC of bytes carried on from that of what came before them.
@@ -42,131 +35,103 @@ fn crc_on(crc: u32, bytes: &[u8]) -> u32
 }
 
 // The CRC that a word of eight hex digits is.
-fn read_crc(w: &[u8]) -> Sum
+fn read_crc(w: &[u8]) -> Option<u32>
     ensures { result ≡ crc_word w.now }
 {
     if w.len() != 8 {
-        return Sum::Bad;
+        return None;
     }
-    let mut digits = [0u8; 4];
-    let hex = hex_into(w, &mut digits);
-    if hex.ok {
-        return Sum::Crc(get_be32(&digits, 0));
-    }
-    Sum::Bad
+    let mut digits = [0; 4];
+    decode(w, &mut digits)?;
+    Some(get_be32(&digits, 0))
 }
 
 // The CRC of the bytes that a word of hex stands for, which are put at the start of bytes.
-fn whole_sum(w: &[u8], bytes: &mut [u8]) -> Sum
+#[tactic(auto, unfolding(crate::specs::Sums::whole_sum))]
+fn whole_sum(w: &[u8], bytes: &mut [u8]) -> Option<u32>
     ensures { result ≡ whole_sum w.now (length bytes.old) }
 {
-    let hex = hex_into(w, bytes);
-    if hex.ok {
-        let size = hex.count;
-        return Sum::Crc(crc32c(&bytes[..size]));
-    }
-    Sum::Bad
+    let size = decode(w, bytes)?;
+    Some(crc32c(&bytes[..size]))
 }
 
 // The same, carried on from the CRC that a word is.
-fn carried_sum(before: &[u8], w: &[u8], bytes: &mut [u8]) -> Sum
+#[tactic(auto, unfolding(crate::specs::Sums::carried_sum))]
+fn carried_sum(before: &[u8], w: &[u8], bytes: &mut [u8]) -> Option<u32>
     ensures { result ≡ carried_sum before.now w.now (length bytes.old) }
 {
-    let Sum::Crc(crc) = read_crc(before) else {
-        return Sum::Bad;
-    };
-    let hex = hex_into(w, bytes);
-    if hex.ok {
-        let size = hex.count;
-        return Sum::Crc(crc_on(crc, &bytes[..size]));
-    }
-    Sum::Bad
+    let crc = read_crc(before)?;
+    let size = decode(w, bytes)?;
+    Some(crc_on(crc, &bytes[..size]))
 }
 
 // The CRC of two pieces, from the words of their CRCs and of the second's length.
-fn joined_sum(one: &[u8], other: &[u8], size: &[u8]) -> Sum
+#[tactic(auto, unfolding(crate::specs::Sums::joined_sum))]
+fn joined_sum(one: &[u8], other: &[u8], size: &[u8]) -> Option<u32>
     ensures { result ≡ joined_sum one.now other.now size.now }
 {
-    let Sum::Crc(a) = read_crc(one) else {
-        return Sum::Bad;
-    };
-    let Sum::Crc(b) = read_crc(other) else {
-        return Sum::Bad;
-    };
-    let Number::Value(n) = read_number(size) else {
-        return Sum::Bad;
-    };
+    let a = read_crc(one)?;
+    let b = read_crc(other)?;
+    let n = read_number(size)?;
     if 0xFFFF_FFFF < n {
-        return Sum::Bad;
+        return None;
     }
-    Sum::Crc(join(a, b, n as u32))
+    Some(join(a, b, n as u32))
 }
 
 // `crc HEX` and `crc CRC HEX`.
-fn answer_crc(line: &[u8], words: Words, bytes: &mut [u8]) -> Sum
-    ensures { result ≡ crc_answer (words_at line.now words) (length bytes.old) }
+#[tactic(auto, unfolding(crate::specs::Sums::crc_answer))]
+fn answer_crc(words: &Words, bytes: &mut [u8]) -> Option<u32>
+    ensures { result ≡ crc_answer (words_of words.now) (length bytes.old) }
 {
-    if words.count == 2 {
-        return whole_sum(word(line, words, 1), bytes);
+    match words.len() {
+        2 => whole_sum(words.word(1), bytes),
+        3 => carried_sum(words.word(1), words.word(2), bytes),
+        _ => None,
     }
-    if words.count == 3 {
-        return carried_sum(word(line, words, 1), word(line, words, 2), bytes);
-    }
-    Sum::Bad
 }
 
 // `join CRC CRC LENGTH`.
-fn answer_join(line: &[u8], words: Words) -> Sum
-    ensures { result ≡ join_answer (words_at line.now words) }
+#[tactic(auto, unfolding(crate::specs::Sums::join_answer))]
+fn answer_join(words: &Words) -> Option<u32>
+    ensures { result ≡ join_answer (words_of words.now) }
 {
-    if words.count != 4 {
-        return Sum::Bad;
+    if words.len() != 4 {
+        return None;
     }
-    joined_sum(
-        word(line, words, 1),
-        word(line, words, 2),
-        word(line, words, 3),
-    )
+    joined_sum(words.word(1), words.word(2), words.word(3))
 }
 
-// What a line is answered: the CRC that it asks for, or that it is no such command. The bytes that its
-// word of hex stands for are put at the start of bytes.
-pub fn answer_sum(line: &[u8], words: Words, bytes: &mut [u8]) -> Sum
-    ensures { result ≡ sum_answer (words_at line.now words) (length bytes.old) }
+// What a line is answered: the CRC that it asks for, if it is such a command. The bytes that its word
+// of hex stands for are put at the start of bytes.
+#[tactic(auto, using(script::proofs::Same::equal_same), unfolding(crate::specs::Sums::sum_answer))]
+pub fn answer_sum(words: &Words, bytes: &mut [u8]) -> Option<u32>
+    ensures { result ≡ sum_answer (words_of words.now) (length bytes.old) }
 {
-    let name = word(line, words, 0);
-    if same(name, b"crc") {
-        return answer_crc(line, words, bytes);
+    let name = words.word(0);
+    if name == b"crc".as_slice() {
+        return answer_crc(words, bytes);
     }
-    if same(name, b"join") {
-        return answer_join(line, words);
+    if name == b"join".as_slice() {
+        return answer_join(words);
     }
-    Sum::Bad
+    None
 }
 
 // `crc CRC`.
-fn tell_crc(crc: u32, text: &mut [u8]) -> usize
-    ensures { result ≤ length text.old }
-{
-    let mut digits = [0u8; 4];
-    put_be32(&mut digits, 0, crc);
-    let at = first(b"crc", text);
-    then_hex(&digits, text, at)
+fn tell_crc<const N: usize>(crc: u32, text: &mut Text<N>) {
+    let _ = write!(text, "crc {crc:08x}");
 }
 
-// Puts an answer into text, and answers its length.
-pub fn tell_sum(sum: Sum, text: &mut [u8]) -> usize
-    ensures { result ≤ length text.old }
-{
+// Puts an answer into text.
+pub fn tell_sum<const N: usize>(sum: Option<u32>, text: &mut Text<N>) {
     match sum {
-        Sum::Crc(crc) => tell_crc(crc, text),
-        Sum::Bad => bad(text),
+        Some(crc) => tell_crc(crc, text),
+        None => bad(text),
     }
 }
 
 // Answers a line.
-pub fn run(line: &[u8], words: Words, bytes: &mut [u8], text: &mut [u8]) -> usize
-    ensures { result ≤ length text.old }
-{
-    tell_sum(answer_sum(line, words, bytes), text)
+pub fn run<const N: usize>(words: &Words, bytes: &mut [u8], text: &mut Text<N>) {
+    tell_sum(answer_sum(words, bytes), text)
 }

@@ -1,17 +1,16 @@
 -- Laws of specs/Wire.antt, stated over lists: a number is what its bytes say, and its bytes are what stands there; what `put` leaves; what `same` says.
 -- Each wider number is shown from the narrower one of which it is two.
-use Prim.Native.Nat.{ℕ, zero, suc, ◌+◌, ◌-◌, ◌*◌, ◌/◌, ◌%◌, ◌<◌, ◌≤◌}
+use Prim.Native.Nat.{ℕ, zero, suc, ◌+◌, ◌*◌, ◌/◌, ◌%◌, ◌<◌, ◌≤◌}
 use mathlib.Core.Bool.{Bool, true, false}
 use mathlib.Core.List.{List, [], ◌∷◌, ◌++◌, append_assoc}
 use mathlib.Core.Path.{◌≡◌, refl, sym, ap, ap₂, ◌∙◌}
 use native.Mathlib.Nat.{zero-add, add-zero, add_assoc}
-use native.Mathlib.Numerals.{add-one, add-two, add-three}
+use native.Mathlib.Numerals.{add-one}
 use native.Mathlib.Omega.{arith}
 use lib.Dec.{eqb}
 use lib.ListN.{length, get_or, take, drop, set, replicate, length-append, length-drop, length-replicate}
 use lib.Seq.{sets-eq, take_at, drop_at, drop-drop, drop-cons, take-add, length-take-le, get_or-take, get_or-drop, get_or-append-add}
 use borrow.Author.Tests.{eq-eqb, eqb-true}
-use borrow.Rule.Slice.PartMut.{put_mid}
 use Rattle.wire.specs.Wire.{both, same, part, put, be16, be16_at, be32, be32_at, be64, be64_at, le32, le32_at}
 
 -- a list of n zeros has n elements
@@ -234,18 +233,9 @@ part-put l at xs h =
     ap (λ (r : List ℕ). take (length xs) r) (drop_at (take at l) (xs ++ drop (at + length xs) l) at (length-take-le at l h))
     ∙ take_at xs (drop (at + length xs) l) (length xs) refl
 
--- what a call that was lent the n elements from at, and left xs in them, leaves
-pub put_lent : (l : List ℕ) (at n : ℕ) (xs : List ℕ) → length xs ≡ n → put_mid at (at + n - at) l xs ≡ put l at xs
-put_lent l at n xs e =
-    let k : at + n - at ≡ n = omega arith in
-    rw (k, drop-drop, ← e)
-
--- two and four stores in a row
+-- two stores in a row
 pub set_2 : (l : List ℕ) (i a b : ℕ) → i + 2 ≤ length l → set (set l i a) (i + 1) b ≡ put l i (a ∷ b ∷ [])
 set_2 l i a b h = rw add-one (sets-eq (a ∷ b ∷ []) l i h ∙ append_assoc (take i l) (a ∷ b ∷ []) (drop (i + 2) l))
-
-pub set_4 : (l : List ℕ) (i a b c d : ℕ) → i + 4 ≤ length l → set (set (set (set l i a) (i + 1) b) (i + 2) c) (i + 3) d ≡ put l i (a ∷ b ∷ c ∷ d ∷ [])
-set_4 l i a b c d h = rw (add-one, add-two, add-three) (sets-eq (a ∷ b ∷ c ∷ d ∷ []) l i h ∙ append_assoc (take i l) (a ∷ b ∷ c ∷ d ∷ []) (drop (i + 4) l))
 
 -- ---- both
 

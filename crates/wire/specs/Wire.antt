@@ -1,4 +1,4 @@
--- Numbers as they stand on the wire, and bytes put at a place of a list.
+-- Numbers as they stand on the wire, and elements put at a place of a list.
 use Rattle.std.specs.Prelude.{ℕ, ◌+◌, ◌*◌, ◌/◌, ◌%◌, Bool, true, false, List, [], ◌∷◌, ◌++◌, length, get_or, take, drop, eqb}
 
 -- if-then-else
@@ -22,8 +22,8 @@ same (x ∷ xs) (y ∷ ys) = both (eqb x y) (same xs ys)
 abbrev pub part : List ℕ → ℕ → ℕ → List ℕ
 part l start len = take len (drop start l)
 
--- the list with the bytes xs at a place
-abbrev pub put : List ℕ → ℕ → List ℕ → List ℕ
+-- the list with the elements xs at a place
+abbrev pub put : {A : Type 0} → List A → ℕ → List A → List A
 put l at xs = take at l ++ (xs ++ drop (at + length xs) l)
 
 -- "All numbers are big-endian": the number that stands at a place in 2, 4 or 8 bytes

@@ -35,16 +35,17 @@ returns-then-b-a c =
     ∙ both_true (ltb a.a (a.b + a.m))
     ∙ ap (both (ltb a.a (a.b + a.m))) (sym (lt-ltb _ _ h))
 
-pub returns-then-n-eq0 : goal.returns-then-n-eq0
+pub returns-else-n-gt0 : goal.returns-else-n-gt0
 unfolding shares
-returns-then-n-eq0 c =
+returns-else-n-gt0 c =
     let a = c.args in
     let h : a.a + a.n ≤ a.b = omega arith in
-    both_false (ltb a.a (a.b + a.m)) ∙ ap (both (ltb a.a (a.b + a.m))) (sym (le-ltb _ _ h))
+    let none : a.n ≤ 0 = omega arith in
+    le-ltb 0 a.n none ∙ both_false (ltb a.a (a.b + a.m)) ∙ ap (both (ltb a.a (a.b + a.m))) (sym (le-ltb _ _ h))
 
-pub returns : goal.returns
+pub returns-then-n-gt0 : goal.returns-then-n-gt0
 unfolding shares
-returns c =
+returns-then-n-gt0 c =
     let a = c.args in
     let h : a.b < a.a + a.n = omega arith in
     ltb-same 0 a.m a.a (a.b + a.m) (λ p. omega arith) (λ p. omega arith)

@@ -1,27 +1,8 @@
--- `read_segment` meets its contract, by that of the framing layer: each arm has what `fpdu_read` gives.
+-- `read_segment` meets its contract: a ULPDU that the framing layer gives lies in the bytes.
 use Rattle.std.proofs.Common.{sym, ap, ◌∙◌}
-use Rattle.ddp.specs.Segment.{segment_from, segment_read}
-use Rattle.ddp.specs.declared.segment.SegmentRead.TheVariants.{Refused}
 use Rattle.mpa.proofs.Taken.{ulpdu_inside}
 use Rattle.ddp.proofs.segment.read_segment.Goals as goal
+use Rattle.std.specs.Prelude.{Ok}
 
 pub segment_of-requires : goal.segment_of-requires
-segment_of-requires c = ulpdu_inside _ _ _ _ _ (sym c.read_fpdu.ensures ∙ c.in-Taken.is)
-
-pub returns-in-Wait : goal.returns-in-Wait
-unfolding segment_read
-returns-in-Wait c =
-    ap (segment_from c.args.bytes.now) (sym c.in-Wait.is
-    ∙ c.read_fpdu.ensures)
-
-pub returns-in-Refused : goal.returns-in-Refused
-unfolding segment_read
-returns-in-Refused c =
-    ap Refused c.framing_refusal.ensures
-    ∙ ap (segment_from c.args.bytes.now) (sym c.in-Refused.is ∙ c.read_fpdu.ensures)
-
-pub returns-in-Taken : goal.returns-in-Taken
-unfolding segment_read
-returns-in-Taken c =
-    c.segment_of.ensures
-    ∙ ap (segment_from c.args.bytes.now) (sym c.in-Taken.is ∙ c.read_fpdu.ensures)
+segment_of-requires c = ulpdu_inside _ _ _ _ _ (sym c.in_ok-n.ensures ∙ ap Ok c.in-Taken.is)

@@ -12,4 +12,4 @@ pub returns : goal.returns
 returns c =
     let a = c.args in
     let w = a.words.now in
-    (refl, phase_changed w c.store_phase.new.words a.domain c.requires.0 (search rules) a.slot c.requires.1 c.ended_by.result c.store_phase.ensures.0 c.store_phase.ensures.1 ∙ ap (λ (p : Phase). with_stream_of (rnic_at w) a.domain a.slot (in_phase (stream_of (rnic_at w) a.domain a.slot) p)) c.ended_by.ensures)
+    (refl, phase_changed w c.store_phase.new.words a.at.domain a.at.domain_in_range (search rules) a.at.slot a.at.slot_in_range c.ended_by.result c.store_phase.ensures.0 c.store_phase.ensures.1 ∙ ap (λ (p : Phase). with_stream_of (rnic_at w) a.at.domain a.at.slot (in_phase (stream_of (rnic_at w) a.at.domain a.at.slot) p)) c.ended_by.ensures)

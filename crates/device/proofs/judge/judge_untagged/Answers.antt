@@ -14,15 +14,15 @@ use Rattle.device.proofs.judge.judge_untagged.Goals as goal
 pub queue_of-q-requires : goal.queue_of-q-requires
 queue_of-q-requires c =
     let a = c.args in
-    (c.requires.0, c.requires.1, c.load_head-head.ensures ∙ ap head_of (sym (sends_of a.words.now a.domain a.slot c.requires.0 c.requires.1)))
+    c.load_head-head.ensures ∙ ap head_of (sym (sends_of a.words.now a.at.domain a.at.slot a.at.domain_in_range a.at.slot_in_range))
 
 pub returns : goal.returns
 returns c =
     let a = c.args in
     let w = a.words.now in
     let payload = a.payload.now in
-    let p = c.load_head-head.ensures ∙ ap head_of (sym (sends_of w a.domain a.slot c.requires.0 c.requires.1)) in
+    let p = c.load_head-head.ensures ∙ ap head_of (sym (sends_of w a.at.domain a.at.slot a.at.domain_in_range a.at.slot_in_range)) in
     let n = c.slot_named.ensures ∙ ap slot_named c.stag_named.ensures in
-    let window = c.load_window-w.ensures ∙ ap (loaded_window w a.domain) n ∙ sym (window_at_lem w a.domain c.requires.0 (slot_named (stag_named a.h payload)) (search rules)) in
+    let window = c.load_window-w.ensures ∙ ap (loaded_window w a.at.domain) n ∙ sym (window_at_lem w a.at.domain a.at.domain_in_range (slot_named (stag_named a.h payload)) (search rules)) in
     c.judge_untagged_segment.ensures
-    ∙ (λ i. untagged_verdict (window i) a.domain (p i).opcode (p i).buffer a.h payload (untagged_of (c.queue_of-q.ensures i) a.h.qn a.h.msn a.h.mo (length payload)))
+    ∙ (λ i. untagged_verdict (window i) a.at.domain (p i).opcode (p i).buffer a.h payload (untagged_of (c.queue_of-q.ensures i) a.h.qn a.h.msn a.h.mo (length payload)))

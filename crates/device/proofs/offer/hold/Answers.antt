@@ -14,7 +14,7 @@ returns c =
     let a = c.args in
     let w = a.words.now in (
       c.gather-g.ensures.0,
-      framing_changed w c.store_framing.new.words a.domain c.requires.0 (search rules) a.slot c.requires.1 (record { crc = a.framing.crc; held = c.held_now.result }) c.store_framing.ensures.0 c.store_framing.ensures.1
-          ∙ ap (λ (m : ℕ). with_stream_of (rnic_at w) a.domain a.slot (with_framing (stream_of (rnic_at w) a.domain a.slot) (framing_holding a.framing m))) c.held_now.ensures,
+      framing_changed w c.store_framing.new.words a.at.domain a.at.domain_in_range (search rules) a.at.slot a.at.slot_in_range (record { crc = a.framing.crc; held = c.held_now.result }) c.store_framing.ensures.0 c.store_framing.ensures.1
+          ∙ ap (λ (m : ℕ). with_stream_of (rnic_at w) a.at.domain a.at.slot (with_framing (stream_of (rnic_at w) a.at.domain a.at.slot) (framing_holding a.framing m))) c.held_now.ensures,
       c.gather-g.ensures.1,
     )

@@ -1,15 +1,23 @@
 -- `offer` meets its contract: the number and the lengths decide, and the rest is `offer_owned`.
-use mathlib.Core.Path.{sym, ◌∙◌}
+use mathlib.Core.Path.{◌≡◌, refl, sym, ◌∙◌}
 use borrow.Author.Tests.{le-leb, lt-leb, eq-eqb, ne_eqb}
 use Rattle.rnic.specs.Offer.{rnic_offered, rnic_offered_store, rnic_offered_rooms}
 use Rattle.block.proofs.Stored.{len_at}
+use Prim.Native.Nat.{ℕ, ◌<◌}
+use Rattle.slots.specs.declared.place.StreamPlace.{StreamPlace}
+use Rattle.std.specs.Prelude.{None, Option, Some, IfNone}
 use Rattle.device.proofs.offer.offer.Goals as goal
+
+-- where no place is found, the number is past the last stream
+past : (r : Option StreamPlace) (n : ℕ) → ((at : StreamPlace) → r ≡ Some at → ⊥) → IfNone r (15 < n) → 15 < n
+past None n h k = k
+past (Some at) n h k = absurd (h at refl)
 
 pub returns-then-rooms-eq-ROOMS : goal.returns-then-rooms-eq-ROOMS
 unfolding rnic_offered rnic_offered_store rnic_offered_rooms
 returns-then-rooms-eq-ROOMS c =
     let a = c.args in
-    let h = le-leb _ _ c.if-stream-le15.true in
+    let h = le-leb _ _ (rw c.in-Some.is at c.of.ensures.found).0 in
     let k = eq-eqb _ _ (c.if-store-len.true ∙ c.load_len-len.ensures ∙ sym (len_at a.words.now)) in
     let m = eq-eqb _ _ c.if-rooms-eq-ROOMS.true in
     (simp (h, k, m) c.offer_owned.ensures.0, simp (h, k, m) c.offer_owned.ensures.1, simp (h, k, m) c.offer_owned.ensures.2, simp (h, k, m) c.offer_owned.ensures.3)
@@ -18,21 +26,21 @@ pub returns-then-store-len : goal.returns-then-store-len
 unfolding rnic_offered rnic_offered_store rnic_offered_rooms
 returns-then-store-len c =
     let a = c.args in
-    let h = le-leb _ _ c.if-stream-le15.true in
+    let h = le-leb _ _ (rw c.in-Some.is at c.of.ensures.found).0 in
     let k = eq-eqb _ _ (c.if-store-len.true ∙ c.load_len-len.ensures ∙ sym (len_at a.words.now)) in
     let m = ne_eqb _ _ c.if-rooms-eq-ROOMS.false in
-    (simp (h, k, m) c.refused_words.ensures, simp (h, k, m), simp (h, k, m), simp (h, k, m))
+    (simp (h, k, m) c.refused_words-then-store-len.ensures, simp (h, k, m), simp (h, k, m), simp (h, k, m))
 
-pub returns-then-stream-le15 : goal.returns-then-stream-le15
+pub returns-in_default : goal.returns-in_default
 unfolding rnic_offered rnic_offered_store rnic_offered_rooms
-returns-then-stream-le15 c =
-    let a = c.args in
-    let h = le-leb _ _ c.if-stream-le15.true in
-    let k = ne_eqb _ _ (λ e. c.if-store-len.false (e ∙ len_at a.words.now ∙ sym c.load_len-len.ensures)) in
-    (simp (h, k) c.refused_words-then-stream-le15.ensures, simp (h, k), simp (h, k), simp (h, k))
+returns-in_default c =
+    let h = lt-leb _ _ (past c.of.result c.args.stream c.in_default.not-Some c.of.ensures.none) in
+    (simp h c.refused_words.ensures, simp h, simp h, simp h)
 
 pub returns : goal.returns
 unfolding rnic_offered rnic_offered_store rnic_offered_rooms
 returns c =
-    let h = lt-leb _ _ c.if-stream-le15.false in
-    (simp h c.refused_words-2.ensures, simp h, simp h, simp h)
+    let a = c.args in
+    let h = le-leb _ _ (rw c.in-Some.is at c.of.ensures.found).0 in
+    let k = ne_eqb _ _ (λ e. c.if-store-len.false (e ∙ len_at a.words.now ∙ sym c.load_len-len.ensures)) in
+    (simp (h, k) c.refused_words-2.ensures, simp (h, k), simp (h, k), simp (h, k))

@@ -2,16 +2,18 @@
 use Rattle.block.proofs.Stored.{window_at_lem, window_changed}
 use Rattle.slots.specs.Window.{window_of, with_window_of}
 use Rattle.block.specs.Device.{rnic_at}
-use Rattle.memory.specs.declared.window.WindowDone.{WindowDone}
 use Rattle.memory.specs.Window.{dropped_in}
 use mathlib.Core.Path.{◌≡◌, sym, ap, ◌∙◌}
 use borrow.Author.Rules.{rules}
 use Rattle.device.proofs.window.drop_slot.Goals as goal
+use Rattle.std.specs.Prelude.{Result, ⊤}
+use Rattle.wire.specs.declared.refusal.LocalRefusal.{LocalRefusal}
+use Rattle.memory.specs.declared.window.Window.{Window}
 
 pub returns : goal.returns
 returns c =
     let a = c.args in
     let w = a.words.now in
-    let e : c.drop_in-done.result ≡ dropped_in (window_of (rnic_at w) a.domain a.slot) = c.drop_in-done.ensures ∙ ap dropped_in (c.load_window-w.ensures ∙ sym (window_at_lem w a.domain c.requires.0 a.slot c.requires.1)) in
-    let stored = window_changed w c.store_window.new.words a.domain c.requires.0 (search rules) a.slot c.requires.1 c.drop_in-done.result.window c.store_window.ensures.0 c.store_window.ensures.1 in
-    (ap (λ (x : WindowDone). x.outcome) e, stored ∙ ap (λ (x : WindowDone). with_window_of (rnic_at w) a.domain a.slot x.window) e)
+    let e : c.drop_in-outcome.result ≡ dropped_in (window_of (rnic_at w) a.at.domain a.at.slot) = c.drop_in-outcome.ensures ∙ ap dropped_in (c.load_window-w.ensures ∙ sym (window_at_lem w a.at.domain a.at.domain_in_range a.at.slot a.at.slot_in_range)) in
+    let stored = window_changed w c.store_window.new.words a.at.domain a.at.domain_in_range (search rules) a.at.slot a.at.slot_in_range c.drop_in-outcome.result.1 c.store_window.ensures.0 c.store_window.ensures.1 in
+    (ap (λ (x : Result ⊤ LocalRefusal × Window). x.0) e, stored ∙ ap (λ (x : Result ⊤ LocalRefusal × Window). with_window_of (rnic_at w) a.at.domain a.at.slot x.1) e)

@@ -1,18 +1,19 @@
--- `take_chunk` meets its contract: after each byte the state and the answers are those of the bytes so far. The measure is what is left of the chunk.
+-- `take_chunk` meets its contract: after each byte the state and the answers are those of the bytes so far.
+use native.Mathlib.Omega.{arith}
 use Rattle.gauge.proofs.Steps.{taken_none, taken-room, taken_more, taken-all}
 use Rattle.gauge.proofs.run.take_chunk.Goals as goal
 
-pub loop-i-init : goal.loop-i-init
-loop-i-init c = let a = c.args in taken_none a.state a.chunk.now a.out.now
+pub loop-b-init : goal.loop-b-init
+loop-b-init g c = let a = c.args in taken_none a.state a.chunk.now _ c.clear.ensures
 
-pub take_byte-step-requires : goal.take_byte-step-requires
-take_byte-step-requires c = let a = c.args in taken-room a.state a.chunk.now a.out.now c.loop-i.out c.loop-i.step c.loop-i.i c.requires c.loop-i-test.true c.loop-i.invariant
+pub take_byte-now-requires : goal.take_byte-now-requires
+take_byte-now-requires g c =
+    let a = c.args in
+    let h = taken-room g.row.N a.state a.chunk.now c.loop-b.out c.loop-b.now c.loop-b.b-index c.requires c.loop-b-test.true c.loop-b.invariant in
+    omega (arith, h)
 
-pub loop-i-preserved : goal.loop-i-preserved
-loop-i-preserved c = let a = c.args in taken_more a.state a.chunk.now a.out.now c.loop-i.out _ c.loop-i.step c.take_byte-step.result c.loop-i.i c.requires c.loop-i-test.true c.loop-i.invariant c.take_byte-step.ensures
-
-pub shape_of-out : goal.shape_of-out
-shape_of-out c = c.loop-i.invariant.long
+pub loop-b-preserved : goal.loop-b-preserved
+loop-b-preserved g c = let a = c.args in taken_more a.state a.chunk.now c.loop-b.out _ c.loop-b.now c.take_byte-now.result c.loop-b.b-index c.loop-b-test.true c.loop-b.invariant c.take_byte-now.ensures
 
 pub returns : goal.returns
-returns c = let a = c.args in taken-all a.state a.chunk.now a.out.now c.loop-i.out c.loop-i.step c.loop-i.i c.requires c.loop-i-test.false c.loop-i.invariant
+returns g c = let a = c.args in taken-all a.state a.chunk.now c.loop-b.out c.loop-b.now c.loop-b.b-index c.loop-b-test.false c.loop-b.invariant

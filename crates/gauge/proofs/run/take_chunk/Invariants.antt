@@ -1,11 +1,6 @@
--- `take_chunk` meets its contract: after each byte the state and the answers are those of the bytes so far. The measure is what is left of the chunk.
-use Prim.Native.Nat.{◌-◌}
-use lib.ListN.{length}
+-- After each byte the state and the answers are those of the bytes so far.
 use Rattle.gauge.proofs.Steps.{Taken}
 use Rattle.gauge.proofs.run.take_chunk.Given as goal
 
-abbrev pub invariant-loop-i : goal.invariant-loop-i
-invariant-loop-i l = Taken l.initial.step.state l.chunk l.initial.out l.out l.step l.i
-
-abbrev pub decreases-loop-i : goal.decreases-loop-i
-decreases-loop-i l = length l.chunk - l.i
+abbrev pub invariant-loop-b : goal.invariant-loop-b
+invariant-loop-b g l = Taken l.initial.now l.chunk l.out l.now l.b-index

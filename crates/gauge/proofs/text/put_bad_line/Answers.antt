@@ -4,4 +4,4 @@ use Rattle.gauge.proofs.Places.{placed_one}
 use Rattle.gauge.proofs.text.put_bad_line.Goals as goal
 
 pub returns : goal.returns
-returns c = let a = c.args in placed_one _ a.out.now _ a.at c.put_word.result (omega (arith, c.requires)) c.put_word.ensures.next c.put_word.ensures.bytes
+returns g c = placed_one g.row.N _ c.args.out.now _ (omega (arith, c.requires)) c.put.ensures

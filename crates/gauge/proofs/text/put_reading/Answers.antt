@@ -1,22 +1,24 @@
--- `put_reading` meets its contract: the name is put, and each float behind it.
+-- `put_reading` meets its contract: the name is appended, and each float behind it.
 use Rattle.gauge.proofs.Places.{quiet-placed, steady-room, falling-room, level-room, steady-placed, falling-placed}
 use native.Mathlib.Omega.{arith}
 use Rattle.gauge.proofs.text.put_reading.Goals as goal
 
-pub then_level-requires : goal.then_level-requires
-then_level-requires c = let a = c.args in steady-room a.out.now _ a.at c.put_word-next.result c.requires c.put_word-next.ensures.next c.put_word-next.ensures.bytes
+pub put_level-requires : goal.put_level-requires
+put_level-requires g c = let h = steady-room g.row.N c.args.out.now _ c.requires c.put-in-Steady.ensures in omega (arith, h)
 
-pub then_level-last-requires : goal.then_level-last-requires
-then_level-last-requires c = let a = c.args in let h = falling-room a.out.now _ a.at c.put_word-next-in-Falling.result c.requires c.put_word-next-in-Falling.ensures.next c.put_word-next-in-Falling.ensures.bytes in omega (arith, h)
+pub put_level-requires-in-Falling : goal.put_level-requires-in-Falling
+put_level-requires-in-Falling g c = let h = falling-room g.row.N c.args.out.now _ c.requires c.put-in-Falling.ensures in omega (arith, h)
 
-pub then_level-requires-in-Falling : goal.then_level-requires-in-Falling
-then_level-requires-in-Falling c = let a = c.args in level-room _ _ _ c.put_word-next-in-Falling.result c.then_level-last.result (falling-room a.out.now _ a.at c.put_word-next-in-Falling.result c.requires c.put_word-next-in-Falling.ensures.next c.put_word-next-in-Falling.ensures.bytes) c.then_level-last.ensures
+pub put_level-requires-in-Falling-2 : goal.put_level-requires-in-Falling-2
+put_level-requires-in-Falling-2 g c =
+    let h = level-room g.row.N _ _ _ (falling-room g.row.N c.args.out.now _ c.requires c.put-in-Falling.ensures) c.put_level-in-Falling.ensures in
+    omega (arith, h)
 
 pub returns-in-Quiet : goal.returns-in-Quiet
-returns-in-Quiet c = let a = c.args in quiet-placed a.r a.out.now _ a.at c.put_word.result c.in-Quiet.is c.requires c.put_word.ensures.next c.put_word.ensures.bytes
+returns-in-Quiet g c = let a = c.args in quiet-placed g.row.N a.r a.out.now _ c.in-Quiet.is c.requires c.put.ensures
 
 pub returns-in-Steady : goal.returns-in-Steady
-returns-in-Steady c = let a = c.args in steady-placed a.r _ a.out.now _ _ a.at c.put_word-next.result c.then_level.result c.in-Steady.is c.requires c.put_word-next.ensures.next c.put_word-next.ensures.bytes c.then_level.ensures
+returns-in-Steady g c = let a = c.args in steady-placed g.row.N a.r _ a.out.now _ _ c.in-Steady.is c.requires c.put-in-Steady.ensures c.put_level.ensures
 
 pub returns-in-Falling : goal.returns-in-Falling
-returns-in-Falling c = let a = c.args in falling-placed a.r _ _ a.out.now _ _ _ a.at c.put_word-next-in-Falling.result c.then_level-last.result c.then_level-in-Falling.result c.in-Falling.is c.requires c.put_word-next-in-Falling.ensures.next c.put_word-next-in-Falling.ensures.bytes c.then_level-last.ensures c.then_level-in-Falling.ensures
+returns-in-Falling g c = let a = c.args in falling-placed g.row.N a.r _ _ a.out.now _ _ _ c.in-Falling.is c.requires c.put-in-Falling.ensures c.put_level-in-Falling.ensures c.put_level-in-Falling-2.ensures

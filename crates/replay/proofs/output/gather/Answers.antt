@@ -1,37 +1,19 @@
 -- `gather` meets its contract: bytes that fit stand behind those that are gathered, or alone once these are written.
-use Prim.Native.Nat.{◌+◌, ◌≤◌, ◌<◌}
-use mathlib.Core.Path.{◌∙◌}
-use lib.ListN.{length}
-use borrow.Author.Rules.{rules}
-use Rattle.replay.proofs.Answers.{gathered-behind, gathered_alone, gathered_none}
+use native.Mathlib.Omega.{arith}
+use Rattle.replay.proofs.Gathered.{gathered-behind, gathered_alone, gathered_none}
 use Rattle.replay.proofs.output.gather.Goals as goal
 
-pub returns-then-more-out-clause-next : goal.returns-then-more-out-clause-next
-returns-then-more-out-clause-next g c =
+pub returns-then-more-room-clause-bytes : goal.returns-then-more-room-clause-bytes
+returns-then-more-room-clause-bytes g c =
     let a = c.args in
-    let h : a.count + length a.more.now ≤ length a.out.now = search rules in
-    (gathered-behind a.out.now a.more.now a.count h).0
+    gathered-behind g.row.N a.out.now a.more.now _ (omega (arith, c.room.ensures, c.if-more-room.true)) c.put.ensures
 
-pub returns-then-more-out-clause-bytes : goal.returns-then-more-out-clause-bytes
-returns-then-more-out-clause-bytes g c =
-    let h : c.args.count + length c.args.more.now ≤ length c.args.out.now = search rules in
-    c.copy.ensures ∙ (gathered-behind c.args.out.now c.args.more.now c.args.count h).1
-
-pub returns-then-more-out-2-clause-next : goal.returns-then-more-out-2-clause-next
-returns-then-more-out-2-clause-next g c =
+pub returns-then-more-clause-bytes : goal.returns-then-more-clause-bytes
+returns-then-more-clause-bytes g c =
     let a = c.args in
-    let h : length a.out.now < a.count + length a.more.now = search rules in
-    let k : length a.more.now ≤ length a.out.now = search rules in
-    (gathered_alone a.out.now a.more.now a.count h k).0
-
-pub returns-then-more-out-2-clause-bytes : goal.returns-then-more-out-2-clause-bytes
-returns-then-more-out-2-clause-bytes g c =
-    let h : length c.args.out.now < c.args.count + length c.args.more.now = search rules in
-    let k : length c.args.more.now ≤ length c.args.out.now = search rules in
-    c.copy-then-more-out-2.ensures ∙ (gathered_alone c.args.out.now c.args.more.now c.args.count h k).1
-
-pub returns-clause-next : goal.returns-clause-next
-returns-clause-next g c = let a = c.args in (gathered_none a.out.now a.more.now a.count (search rules)).0
+    gathered_alone g.row.N a.out.now a.more.now _ _ (omega (arith, c.room.ensures, c.if-more-room.false)) c.if-more.true c.clear.ensures c.put-then-more.ensures
 
 pub returns-clause-bytes : goal.returns-clause-bytes
-returns-clause-bytes g c = let a = c.args in (gathered_none a.out.now a.more.now a.count (search rules)).1
+returns-clause-bytes g c =
+    let a = c.args in
+    gathered_none g.row.N a.out.now a.more.now _ (omega (arith, c.room.ensures)) (omega (arith, c.if-more.false)) c.clear-2.ensures

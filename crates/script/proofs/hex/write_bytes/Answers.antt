@@ -1,24 +1,11 @@
--- `write_bytes` meets its contract. The loop keeps out as it was with the first j bytes of `pairs` pasted in at the front.
-use native.Mathlib.Omega.{arith}
-use mathlib.Core.Path.{refl}
-use native.Mathlib.Nat.{le_antisymm}
-use lib.ListN.{length-set}
+-- A turn of the loop writes the next byte of `pairs`.
+use Rattle.std.proofs.Common.{arith, sym, ap₂, ◌∙◌, ℕ, ◌+◌, ◌*◌}
+use Rattle.script.proofs.Pairs.{pair_at, length_pairs}
+use Rattle.script.specs.Hex.{pairs}
 use Rattle.script.proofs.Placed.{turn_front}
-use Rattle.script.proofs.Pairs.{length_pairs}
 use Rattle.script.proofs.hex.write_bytes.Goals as goal
 
-pub loop-j-init : goal.loop-j-init
-loop-j-init c = (omega arith, refl, refl)
-
-pub pair_at-requires : goal.pair_at-requires
-pair_at-requires c = (omega arith, λ k h. c.requires.digits.1 k (omega arith))
-
 pub loop-j-preserved : goal.loop-j-preserved
-loop-j-preserved c = (
-  omega arith,
-  turn_front _ _ _ _ _ (omega arith) (omega (arith, length_pairs c.args.w.now)) c.loop-j.invariant.1 c.pair_at.ensures,
-  simp length-set c.loop-j.invariant.2,
-)
-
-pub returns : goal.returns
-returns c = rw (le_antisymm c.loop-j.invariant.0 c.loop-j-test.false) at c.loop-j.invariant.1
+loop-j-preserved c =
+    let e = ap₂ (λ (h l : ℕ). h * 16 + l) c.digit_value-high.ensures.value c.digit_value-low.ensures.value in
+    turn_front c.args.out.now (pairs c.args.w.now) _ c.loop-j.j _ (omega arith) (omega (arith, length_pairs c.args.w.now)) c.loop-j.invariant (e ∙ sym (pair_at c.args.w.now c.loop-j.j (omega arith)))

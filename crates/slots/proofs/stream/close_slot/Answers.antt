@@ -5,23 +5,23 @@ use Rattle.block.specs.declared.sends.Head.{Head}
 use Rattle.block.specs.declared.reads.Tally.{Tally}
 use Rattle.block.specs.Exchange.{with_stream_of}
 use Rattle.block.specs.Device.{rnic_at}
-use Rattle.rdmap.specs.declared.stream.CloseAnswer.TheVariants.{Closed}
 use Rattle.rdmap.specs.declared.stream.Stream.{Stream}
 use Rattle.rdmap.specs.Phase.{is_closed}
 use Prim.Native.Nat.{ℕ}
 use mathlib.Core.Path.{sym, ap, ap₂, ◌∙◌}
 use borrow.Author.Rules.{rules}
 use Rattle.slots.proofs.stream.close_slot.Goals as goal
+use Rattle.std.specs.Prelude.{Ok}
 
 pub returns-then-is_closed : goal.returns-then-is_closed
 returns-then-is_closed c =
     let a = c.args in
-    close_refused a.words.now a.domain a.slot c.requires.0 c.requires.1 (ap is_closed (sym c.load_phase-phase.ensures) ∙ sym c.is_closed.ensures ∙ c.if-is_closed.true)
+    close_refused a.words.now a.at.domain a.at.slot a.at.domain_in_range a.at.slot_in_range (ap is_closed (sym c.load_phase-phase.ensures) ∙ sym c.is_closed.ensures ∙ c.if-is_closed.true)
 
 pub returns : goal.returns
 returns c =
     let a = c.args in
     let e = ap is_closed (sym c.load_phase-phase.ensures) ∙ sym c.is_closed.ensures ∙ c.if-is_closed.false in
-    let stored = stream_changed a.words.now c.store_stream.new.words a.domain c.requires.0 (search rules) a.slot c.requires.1 c.closed_stream.result c.store_stream.ensures.0 c.store_stream.ensures.1 in
-    let done = close_done a.words.now a.domain a.slot c.requires.0 c.requires.1 c.store_stream.new.words e (stored ∙ ap (λ (x : Stream). with_stream_of (rnic_at a.words.now) a.domain a.slot x) c.closed_stream.ensures) in
-    (ap₂ (λ (x y : ℕ). Closed x y) (ap (λ (x : Head). x.count) c.load_head-sends.ensures) (ap (λ (x : Tally). x.count) c.load_tally-reads.ensures) ∙ done.0, done.1)
+    let stored = stream_changed a.words.now c.store_stream.new.words a.at.domain a.at.domain_in_range (search rules) a.at.slot a.at.slot_in_range c.closed_stream.result c.store_stream.ensures.0 c.store_stream.ensures.1 in
+    let done = close_done a.words.now a.at.domain a.at.slot a.at.domain_in_range a.at.slot_in_range c.store_stream.new.words e (stored ∙ ap (λ (x : Stream). with_stream_of (rnic_at a.words.now) a.at.domain a.at.slot x) c.closed_stream.ensures) in
+    (ap₂ (λ (x y : ℕ). Ok (record { buffers = x; reads = y })) (ap (λ (x : Head). x.count) c.load_head-sends.ensures) (ap (λ (x : Tally). x.count) c.load_tally-reads.ensures) ∙ done.0, done.1)

@@ -13,11 +13,11 @@ pub returns-then-is_closed : goal.returns-then-is_closed
 returns-then-is_closed c =
     let a = c.args in
     let e = ap is_closed (sym c.load_phase-phase.ensures) ∙ sym c.is_closed.ensures ∙ c.if-is_closed.true in
-    let stored = stream_changed a.words.now c.store_stream.new.words a.domain c.requires.0 (search rules) a.slot c.requires.1 c.opened_stream.result c.store_stream.ensures.0 c.store_stream.ensures.1 in
-    open_done a.words.now a.domain a.slot c.requires.0 c.requires.1 a.crc c.store_stream.new.words e
-    (stored ∙ ap (λ (x : Stream). with_stream_of (rnic_at a.words.now) a.domain a.slot x) c.opened_stream.ensures)
+    let stored = stream_changed a.words.now c.store_stream.new.words a.at.domain a.at.domain_in_range (search rules) a.at.slot a.at.slot_in_range c.opened_stream.result c.store_stream.ensures.0 c.store_stream.ensures.1 in
+    open_done a.words.now a.at.domain a.at.slot a.at.domain_in_range a.at.slot_in_range a.crc c.store_stream.new.words e
+    (stored ∙ ap (λ (x : Stream). with_stream_of (rnic_at a.words.now) a.at.domain a.at.slot x) c.opened_stream.ensures)
 
 pub returns : goal.returns
 returns c =
     let a = c.args in
-    open_refused a.words.now a.domain a.slot c.requires.0 c.requires.1 a.crc (ap is_closed (sym c.load_phase-phase.ensures) ∙ sym c.is_closed.ensures ∙ c.if-is_closed.false)
+    open_refused a.words.now a.at.domain a.at.slot a.at.domain_in_range a.at.slot_in_range a.crc (ap is_closed (sym c.load_phase-phase.ensures) ∙ sym c.is_closed.ensures ∙ c.if-is_closed.false)

@@ -2,20 +2,10 @@
 use Prim.Native.Nat.{ℕ}
 use mathlib.Core.List.{List}
 use mathlib.Core.Path.{ap, ◌∙◌}
-use native.Mathlib.Omega.{arith}
-use lib.ListN.{set, length-set}
+use lib.ListN.{set}
 use Rattle.wire.specs.Wire.{put, be16}
 use Rattle.startup2.proofs.Puts.{head_put}
 use Rattle.startup2.proofs.frame.put_head.Goals as goal
-
-pub bounds-out-17 : goal.bounds-out-17
-bounds-out-17 c = simp length-set (omega arith)
-
-pub put_be16-requires : goal.put_be16-requires
-put_be16-requires c = (c.requires.0, simp length-set (omega arith))
-
-pub shape_of-out : goal.shape_of-out
-shape_of-out c = c.put_be16.auto.out ∙ simp length-set c.copy.auto.dst
 
 pub returns : goal.returns
 returns c =

@@ -1,6 +1,0 @@
--- `then_number` meets its contract: the place after two puts lies within the text.
-use Rattle.command.proofs.Within.{put_twice}
-use Rattle.command.proofs.answer.then_number.Goals as goal
-
-pub returns : goal.returns
-returns c = put_twice _ _ _ _ _ c.put_word-next.auto.out c.put_word-next.ensures.next c.put_number.ensures.next c.requires

@@ -1,9 +1,0 @@
--- `judge_right` meets its contract: the test on the rights is `may_write`.
-use borrow.Author.Tests.{eq-eqb, ne_eqb}
-use Rattle.rdmap.proofs.message.judge_right.Goals as goal
-
-pub returns-then-w-eq1 : goal.returns-then-w-eq1
-returns-then-w-eq1 c = simp (eq-eqb _ _ c.if-w-eq1.true)
-
-pub returns-else-w-eq1 : goal.returns-else-w-eq1
-returns-else-w-eq1 c = simp (ne_eqb _ _ c.if-w-eq1.false)

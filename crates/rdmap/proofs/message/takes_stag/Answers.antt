@@ -1,9 +1,0 @@
--- `takes_stag` meets its contract: the test on the opcode picks the case of `takes_stag`.
-use borrow.Author.Tests.{eq-eqb, ne_eqb}
-use Rattle.rdmap.proofs.message.takes_stag.Goals as goal
-
-pub returns-then-opcode-eq4 : goal.returns-then-opcode-eq4
-returns-then-opcode-eq4 c = simp (eq-eqb _ _ c.if-opcode-eq4.true)
-
-pub returns-else-opcode-eq4 : goal.returns-else-opcode-eq4
-returns-else-opcode-eq4 c = simp (ne_eqb _ _ c.if-opcode-eq4.false)

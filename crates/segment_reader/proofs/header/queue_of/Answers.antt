@@ -1,5 +1,0 @@
--- `queue_of` meets its contract: the arms are the definition's cases.
-use Rattle.segment_reader.proofs.header.queue_of.Goals as goal
-
-pub returns : goal.returns
-returns c = simp (c.in-Value.is, c.in-Value-msn.is, c.in-Value-mo.is)
