@@ -1,6 +1,6 @@
 -- The words of a line, and what the words of a command can be.
 -- Assumes nothing.
-use Rattle.std.specs.Prelude.{ℕ, zero, suc, ◌+◌, Bool, true, false, cond, List, [], ◌∷◌, ◌++◌, Option, Some, None, is_some, unwrap_or, option_and_then, length, map, get_or, eqb, ltb}
+use Rattle.std.specs.Prelude.{ℕ, zero, suc, ◌+◌, Bool, true, false, cond, List, [], ◌∷◌, ◌++◌, take, Option, Some, None, is_some, unwrap_or, option_and_then, length, map, get_or, eqb, ltb}
 use Rattle.wire.specs.Wire.{pick, both, same}
 use Rattle.script.specs.Word.{words_from}
 use Rattle.script.specs.Number.{number_of}
@@ -24,7 +24,7 @@ line_words line = words_from 11 line 0
 
 -- those that are kept of a line
 unfoldable pub words_of : Words → List (List ℕ)
-words_of w = map (λ r. r.now) w.found.items
+words_of w = map (λ r. r.now) (take w.count w.found)
 
 -- word number i, of no bytes where there is none
 abbrev pub word_of : List (List ℕ) → ℕ → List ℕ

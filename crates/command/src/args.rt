@@ -3,7 +3,6 @@ ghost use Rattle.std.specs.Prelude.{◌≡◌, min, length};
 ghost use Rattle.script.specs.Number.{number_of};
 ghost use Rattle.command.specs.Args.{line_words, words_of, word_of, flag_of, number_at, numbers_of};
 
-use arrayvec::ArrayVec;
 use script::number::read_number;
 use script::word::next_word;
 
@@ -13,10 +12,12 @@ const MAX_WORDS: usize = 11;
 // As many numbers as the longest command, `open`, has.
 const MAX_NUMBERS: usize = 9;
 
-// The first words of a line. A line with more words than a command has is as good as one with 11.
-#[derive(Drop)]
+// The first words of a line: the first `count` of `found`. A line with more words than a command has
+// is as good as one with 11.
+#[derive(Clone, Copy)]
 pub struct Words<'a> {
-    found: ArrayVec<&'a [u8], 11>,
+    pub found: [&'a [u8]; 11],
+    pub count: usize,
 }
 
 impl<'a> Words<'a> {
@@ -25,7 +26,7 @@ impl<'a> Words<'a> {
     pub fn len(&self) -> usize
         ensures { result ≡ length (words_of self.now) }
     {
-        self.found.len()
+        self.count.min(MAX_WORDS)
     }
 
     // Word number i, of no bytes where there is none.
@@ -33,10 +34,7 @@ impl<'a> Words<'a> {
     pub fn word(&self, i: usize) -> &'a [u8]
         ensures { result.now ≡ word_of (words_of self.now) i }
     {
-        match self.found.get(i) {
-            Some(word) => *word,
-            None => &[],
-        }
+        if i < self.len() { self.found[i] } else { &[] }
     }
 
     // Word number i as a number.
@@ -83,16 +81,19 @@ impl<'a> Words<'a> {
 pub fn split(line: &[u8]) -> Words<'_>
     ensures { words_of result ≡ line_words line.now }
 {
-    let mut found = ArrayVec::new();
+    let mut found: [&[u8]; 11] = [&[]; 11];
     let mut at = 0;
-    for _i in 0..MAX_WORDS {
+    for count in 0..MAX_WORDS {
         let Some(word) = next_word(line, at) else {
-            return Words { found };
+            return Words { found, count };
         };
         at = word.end;
-        found.push(&line[word]);
+        found[count] = &line[word];
     }
-    Words { found }
+    Words {
+        found,
+        count: MAX_WORDS,
+    }
 }
 
 // Which of two words a word is: `on` stands for true.

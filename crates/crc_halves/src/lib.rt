@@ -41,10 +41,9 @@ static HALVES: [u32; 256] = [
     0x423B04DA, 0x0B0779FD, 0xD043FE94, 0x997F83B3, 0x632686B7, 0x2A1AFB90, 0xF15E7CF9, 0xB86201DE,
 ];
 
-// What BITS bits make of the half byte of x.
+// What BITS bits make of the half byte of x, where BITS is one of 4, 8, .. 64.
 pub fn half<const BITS: usize>(x: u32) -> u32
-    requires { (4 ≤ BITS) × (BITS ≤ 64) × (BITS % 4 ≡ 0) }
-    ensures { result ≡ after BITS (x % 16) }
+    ensures { (4 ≤ BITS) × (BITS ≤ 64) × (BITS % 4 ≡ 0) → result ≡ after BITS (x % 16) }
 {
-    HALVES[(BITS / 4 - 1) * 16 + (x % 16) as usize]
+    HALVES[(BITS / 4 + 15) % 16 * 16 + (x % 16) as usize]
 }

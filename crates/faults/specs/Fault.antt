@@ -52,6 +52,8 @@ fault_of Kind.Frame w = flag_fault (flag_of w (114 ∷ 101 ∷ 113 ∷ []) (114 
 fault_of Kind.Bit w = flag_fault (flag_of w (48 ∷ []) (49 ∷ [])) Fault.Bit
 -- `write`, `send`
 fault_of Kind.Message w = flag_fault (flag_of w (119 ∷ 114 ∷ 105 ∷ 116 ∷ 101 ∷ []) (115 ∷ 101 ∷ 110 ∷ 100 ∷ [])) Fault.Message
+-- any word
+fault_of Kind.Any w = None
 
 -- ---- the first word after the name that is not of its kind
 

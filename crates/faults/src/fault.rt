@@ -9,7 +9,7 @@ use script::hex::hex_length;
 use script::number::read_number;
 
 // What a word of a command is to be: a number; hex; a CRC; `on` or `off`; `req` or `rep`; 0 or 1; `write`
-// or `send`.
+// or `send`; or any word, with which nothing is wrong.
 #[derive(Clone, Copy)]
 pub enum Kind {
     Number,
@@ -19,6 +19,7 @@ pub enum Kind {
     Frame,
     Bit,
     Message,
+    Any,
 }
 
 // What is wrong with a word: it is no number, or one over 64 bits; no hex, or an odd count of digits; no
@@ -105,6 +106,7 @@ pub fn word_fault(kind: Kind, w: &[u8]) -> Option<Fault>
         Kind::Frame => flag_fault(flag_of(w, b"req", b"rep"), Fault::Frame),
         Kind::Bit => flag_fault(flag_of(w, b"0", b"1"), Fault::Bit),
         Kind::Message => flag_fault(flag_of(w, b"write", b"send"), Fault::Message),
+        Kind::Any => None,
     }
 }
 

@@ -2,7 +2,7 @@
 ghost use Rattle.std.specs.Prelude.{◌*◌, ◌≤◌, length};
 
 use super::run::{start, take_chunk, take_rest};
-use script::stream::{read_chunk, write_out};
+use super::stream::{read_chunk, write_out};
 use script::text::Text;
 use std::io;
 use std::io::{Read, Write};

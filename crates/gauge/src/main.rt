@@ -8,6 +8,7 @@
 mod input;
 mod line;
 mod run;
+mod stream;
 mod text;
 
 use script::text::Text;

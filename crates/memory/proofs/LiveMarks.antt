@@ -28,13 +28,13 @@ bit_high n true = omega arith
 bit_high n false = omega arith
 
 -- as many marks are set as windows are live
-pub ones-live : (ws : List Window) → ones (live_marks ws) ≡ live_count ws
+pub ones_live : (ws : List Window) → ones (live_marks ws) ≡ live_count ws
 unfolding live_marks live_count ones
-ones-live [] = refl
-ones-live (w ∷ ws) =
+ones_live [] = refl
+ones_live (w ∷ ws) =
     ones_step (live_marks ws * 2 + pick w.live 1 0)
     ∙ ap₂ (λ (a b : ℕ). a + ones b) (bit_low (live_marks ws) w.live) (bit_high (live_marks ws) w.live)
-    ∙ ap (λ (n : ℕ). pick w.live 1 0 + n) (ones-live ws)
+    ∙ ap (λ (n : ℕ). pick w.live 1 0 + n) (ones_live ws)
 
 -- as many bits as windows
 marks_below : (ws : List Window) → live_marks ws < 2 ^ length ws

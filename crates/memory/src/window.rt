@@ -1,6 +1,6 @@
 // Windows: the tagged buffers of a domain, sixteen by value, one entry changed at a time. A call answers a pair: what it
 // says, and the window or the windows after it.
-ghost use Rattle.std.specs.Prelude.{◌≡◌, ◌<◌};
+ghost use Rattle.std.specs.Prelude.{◌≡◌, ◌<◌, ◌≤◌, length};
 ghost use Rattle.memory.specs.Window.{in_range, window_fits, keeping, refusing, entering, registered_in, registered, dropped_in, dropped, live_count, lowest_free, named, slot_named, found_in, wraps, spanned};
 ghost use Rattle.memory.specs.Marks.{live_marks};
 
@@ -173,24 +173,27 @@ pub fn drop_window(windows: [Window; 16], slot: u64) -> (Result<(), LocalRefusal
 }
 
 // The live marks of the windows, bit i for slot i.
-fn gather(windows: [Window; 16]) -> u16
-    ensures { result ≡ live_marks windows }
+fn gather(windows: &[Window]) -> u16
+    requires { length windows.now ≤ 16 }
+    ensures { result ≡ live_marks windows.now }
 {
     windows.iter().rev().fold(0, |marks, w| push(marks, w.live))
 }
 
 // How many windows are live.
+#[tactic(auto, using(crate::proofs::LiveMarks::ones_live))]
 pub fn live_count(windows: [Window; 16]) -> u32
     ensures { result ≡ live_count windows }
 {
-    count(gather(windows))
+    count(gather(&windows))
 }
 
 // The lowest slot whose window is dead, 16 where none is.
+#[tactic(auto, using(crate::proofs::LiveMarks::clear_free))]
 pub fn lowest_free(windows: [Window; 16]) -> u32
     ensures { result ≡ lowest_free windows }
 {
-    lowest_clear(gather(windows))
+    lowest_clear(gather(&windows))
 }
 
 // Whether a window is live and has the key.

@@ -308,7 +308,15 @@ pub fn judge_untagged_segment(
 ) -> Result<Verdict, Refusal>
     ensures { result ≡ untagged_verdict w domain under b h payload.now (untagged_of q h.qn h.msn h.mo (length payload.now)) }
 {
-    let (start, end) = judge_untagged(q, h.qn, h.msn, h.mo, payload.len() as u64)?;
-    judge_control(h.control, fits_queue(h.qn, under, h.control % 16))?;
-    judge_message(w, domain, b, h, start, end, payload)
+    // Kept: no `?` here. It takes the answer to pieces by way of the stack, which made a Send a third slower to receive.
+    match judge_untagged(q, h.qn, h.msn, h.mo, payload.len() as u64) {
+        Err(refusal) => Err(refusal),
+        Ok((start, end)) => match judge_control(
+            h.control,
+            fits_queue(h.qn, under, h.control % 16),
+        ) {
+            Err(refusal) => Err(refusal),
+            Ok(()) => judge_message(w, domain, b, h, start, end, payload),
+        },
+    }
 }

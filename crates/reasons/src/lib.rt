@@ -7,6 +7,7 @@
 
 use crate::say::{quoted, tell};
 use crate::usage::usage_of;
+use command::answer::then_number;
 use command::args::split;
 use faults::look::{Look, look_at};
 use script::text::Text;
@@ -30,7 +31,9 @@ fn by_name<const N: usize>(line: &[u8], text: &mut Text<N>) {
 
 // Appends what stands at a place of the line, which is counted from 1.
 fn place<const N: usize>(what: &str, i: usize, text: &mut Text<N>) {
-    let _ = write!(text, "{what}: byte {}", i.saturating_add(1));
+    let _ = text.write_str(what);
+    text.put(b": byte");
+    then_number(i.saturating_add(1) as u64, text);
 }
 
 // Appends the reason of a line: a byte that no command has, or what its words show.
@@ -45,17 +48,22 @@ fn reason<const N: usize>(line: &[u8], text: &mut Text<N>) {
     }
 }
 
+// Appends how the reason of the script's line of that number starts.
+fn start<const N: usize>(number: u64, text: &mut Text<N>) {
+    text.put(b"replay: line");
+    then_number(number, text);
+    text.put(b": ");
+}
+
 // Appends a line that says why the script's line of that number is `bad`.
 pub fn explain<const N: usize>(number: u64, line: &[u8], text: &mut Text<N>) {
-    let _ = write!(text, "replay: line {number}: ");
+    start(number, text);
     reason(line, text);
     text.put(b"\n");
 }
 
 // The same of a line that is too long to be kept.
 pub fn explain_long<const N: usize>(number: u64, text: &mut Text<N>) {
-    let _ = writeln!(
-        text,
-        "replay: line {number}: the line is longer than 65,536 bytes"
-    );
+    start(number, text);
+    text.put(b"the line is longer than 65,536 bytes\n");
 }

@@ -12,3 +12,7 @@ gathered room out more = pick (leb (length out + length more) room) (out ++ more
 -- an answer as a line: with a newline, where the text has room for it
 abbrev pub answer_line : ℕ → List ℕ → List ℕ
 answer_line room text = appended room text (10 ∷ [])
+
+-- `bad` as a line
+abbrev pub bad_line : List ℕ
+bad_line = 98 ∷ 97 ∷ 100 ∷ 10 ∷ []

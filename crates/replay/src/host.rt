@@ -4,10 +4,10 @@ ghost use Rattle.running.specs.Run.{state_at, line_state, line_store, line_rooms
 
 use super::output::{flush, print_answer};
 use super::said::{Answer, Said};
+use super::stream::read_chunk;
 use holding::gather::ROOMS;
 use running::line::add_bytes;
 use running::run::{first_state, run_line};
-use script::stream::read_chunk;
 use script::text::Text;
 use script::word::line_end;
 use std::io;
@@ -55,7 +55,7 @@ impl Host {
 
     // Runs the line, as `run_line` does, gathers its answer, and says why it is `bad` where it is. An answer
     // that cannot be written leaves the line run: the device, the store, the second slice and the message are
-    // as after it.
+    // as after it. The line itself stays.
     pub fn run_told(
         &mut self,
         output: &mut impl Write,
@@ -73,6 +73,8 @@ impl Host {
         ensures message { self.new.message
             ≡ line_message self.old.message (length self.old.held) (length self.old.bytes) (length self.old.frame) self.old.line self.old.count }
         ensures held { self.new.held ≡ line_held self.old.held (length self.old.bytes) self.old.line self.old.count }
+        ensures line { self.new.line ≡ self.old.line }
+        ensures count { self.new.count ≡ self.old.count }
     {
         self.kept = run_line(
             self.kept,

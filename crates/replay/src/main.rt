@@ -15,6 +15,7 @@ use std::process::ExitCode;
 mod host;
 mod output;
 mod said;
+mod stream;
 
 // Runs the script with a room for answers that is lent: apart from `main`, so that not both are made on one stack.
 fn run(rt: &HostRuntime, text: &mut Answer) -> io::Result<()> {

@@ -2,7 +2,7 @@
 ghost use Rattle.std.specs.Prelude.{◌≡◌, ◌≤◌, ◌+◌, length, [], IsOk, OnOk, OnErr};
 ghost use Rattle.replay.specs.Output.{gathered, answer_line};
 
-use script::stream;
+use super::stream;
 use script::text::Text;
 use std::io;
 use std::io::Write;

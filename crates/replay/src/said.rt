@@ -1,5 +1,7 @@
 // What is said of the lines: their answers on standard output, and on standard error why a line is `bad`.
-ghost use Rattle.std.specs.Prelude.{◌≡◌, OnErr};
+ghost use Rattle.std.specs.Prelude.{◌≡◌, [], OnOk, OnErr};
+ghost use Rattle.wire.specs.Wire.{pick, same};
+ghost use Rattle.replay.specs.Output.{bad_line};
 
 use super::output::flush;
 use reasons::{explain, explain_long};
@@ -35,13 +37,9 @@ impl Said {
     }
 
     // Gives the reason of a line that is `bad`, where not too many are given.
-    fn tell_reason(
-        &mut self,
-        errors: &mut impl Write,
-        line: &[u8],
-        count: usize,
-        text: &mut Answer,
-    ) {
+    fn tell_reason(&mut self, errors: &mut impl Write, line: &[u8], count: usize, text: &mut Answer)
+        ensures { self.new.out ≡ self.old.out }
+    {
         if self.reasons < MOST {
             self.give_reason(errors, line, count, text);
         } else if self.reasons == MOST {
@@ -52,7 +50,9 @@ impl Said {
         self.reasons = self.reasons.saturating_add(1);
     }
 
-    // Counts a line that was run and, where its answer is `bad`, writes what is gathered and then says why.
+    // Counts a line that was run and, where its answer is `bad`, writes what is gathered and then says why; else
+    // what is gathered stays.
+    #[tactic(auto, using(script::proofs::Same::equal_same))]
     pub fn tell_why(
         &mut self,
         output: &mut impl Write,
@@ -61,7 +61,8 @@ impl Said {
         count: usize,
         text: &mut Answer,
     ) -> io::Result<()>
-        ensures err { OnErr result (text.new ≡ text.old) }
+        ensures out { OnOk result (self.new.out ≡ pick (same text.old bad_line) [] self.old.out) }
+        ensures err { OnErr result ((text.new ≡ text.old) × (self.new.out ≡ self.old.out)) }
     {
         self.lines = self.lines.saturating_add(1);
         if text.as_slice() == b"bad\n".as_slice() {

@@ -2,19 +2,24 @@
 // specs/Words.antt of the crate `calls` has them, appended to a text. Read `tell` first, then `tell_offer`.
 #![tactic(auto)]
 
+ghost use Rattle.std.specs.Prelude.{◌≡◌, ◌∷◌, []};
+ghost use Rattle.script.specs.Hex.{hex_text};
+ghost use Rattle.script.specs.Text.{appended};
+ghost use Rattle.wire.specs.Wire.{be64};
+
+use command::answer::{then_hex, then_number};
 use script::text::Text;
-use std::fmt::Write;
 
 // Appends words of the answer, each after a space.
 fn then_words<const N: usize>(words: &[u64], text: &mut Text<N>) {
     for word in words {
-        let _ = write!(text, " {word}");
+        then_number(*word, text);
     }
 }
 
 // Appends a word, and then words of the answer.
-fn told<const N: usize>(word: &str, words: &[u64], text: &mut Text<N>) {
-    let _ = text.write_str(word);
+fn told<const N: usize>(word: &[u8], words: &[u64], text: &mut Text<N>) {
+    text.put(word);
     then_words(words, text);
 }
 
@@ -23,24 +28,24 @@ fn told<const N: usize>(word: &str, words: &[u64], text: &mut Text<N>) {
 fn then_report<const N: usize>(kind: u64, answer: [u64; 8], text: &mut Text<N>) {
     match kind {
         6 => (),
-        7 => told(" send", &answer[2..5], text),
+        7 => told(b" send", &answer[2..5], text),
         8 => {
-            told(" send", &answer[2..5], text);
-            told(" stag", &answer[5..6], text);
+            told(b" send", &answer[2..5], text);
+            told(b" stag", &answer[5..6], text);
         }
-        _ => told(" terminate", &answer[2..5], text),
+        _ => told(b" terminate", &answer[2..5], text),
     }
 }
 
 // `taken TOTAL` with what the FPDU reports.
 fn taken<const N: usize>(kind: u64, answer: [u64; 8], text: &mut Text<N>) {
-    told("taken", &answer[1..2], text);
+    told(b"taken", &answer[1..2], text);
     then_report(kind, answer, text);
 }
 
 // `took K`: how many bytes of this call an offer took.
 fn took<const N: usize>(answer: [u64; 8], text: &mut Text<N>) {
-    told("took", &answer[6..7], text);
+    told(b"took", &answer[6..7], text);
 }
 
 // `took K taken TOTAL` with what the FPDU reports that these bytes complete.
@@ -52,18 +57,21 @@ fn completed<const N: usize>(kind: u64, answer: [u64; 8], text: &mut Text<N>) {
 
 // Appends `/TYPE/CODE`, of which the code is a byte in hex.
 fn then_code<const N: usize>(kind: u64, code: u64, text: &mut Text<N>) {
-    let _ = write!(text, "/{kind}/{:02X}", (code % 256) as u8);
+    text.put(b"/");
+    text.put_number(kind);
+    text.put(b"/");
+    text.put_byte_hex((code % 256) as u8);
 }
 
 // `refused NUMBER LAYER/TYPE/CODE`: a refusal of the peer's bytes.
 fn ended<const N: usize>(answer: [u64; 8], text: &mut Text<N>) {
-    told("refused", &answer[1..3], text);
+    told(b"refused", &answer[1..3], text);
     then_code(answer[3], answer[4], text);
 }
 
 // `state ended NUMBER LAYER/TYPE/CODE BUFFERS READS`: a stream that a refusal of the peer's bytes ended.
 fn ended_state<const N: usize>(answer: [u64; 8], text: &mut Text<N>) {
-    told("state ended", &answer[4..6], text);
+    told(b"state ended", &answer[4..6], text);
     then_code(answer[6], answer[7], text);
     then_words(&answer[2..4], text);
 }
@@ -72,9 +80,9 @@ fn ended_state<const N: usize>(answer: [u64; 8], text: &mut Text<N>) {
 fn stated<const N: usize>(answer: [u64; 8], text: &mut Text<N>) {
     match answer[1] {
         0 => text.put(b"state closed"),
-        1 => told("state open", &answer[2..4], text),
+        1 => told(b"state open", &answer[2..4], text),
         2 => ended_state(answer, text),
-        _ => told("state terminated", &answer[2..4], text),
+        _ => told(b"state terminated", &answer[2..4], text),
     }
 }
 
@@ -90,20 +98,30 @@ fn done<const N: usize>(number: u64, text: &mut Text<N>) {
 // `live COUNT` or `free SLOT`.
 fn counted<const N: usize>(number: u64, answer: [u64; 8], text: &mut Text<N>) {
     if number == 7 {
-        told("live", &answer[1..2], text);
+        told(b"live", &answer[1..2], text);
     } else {
-        told("free", &answer[1..2], text);
+        told(b"free", &answer[1..2], text);
     }
+}
+
+// Appends a space and the sixteen hex digits of a word.
+fn then_bits<const N: usize>(v: u64, text: &mut Text<N>)
+    ensures { text.new ≡ appended N (appended N text.old (32 ∷ [])) (hex_text (be64 v)) }
+{
+    then_hex(&u64::to_be_bytes(v), text);
 }
 
 // `steady BITS`: the bits of the gauge's level.
 fn steady<const N: usize>(answer: [u64; 8], text: &mut Text<N>) {
-    let _ = write!(text, "steady {:016x}", answer[1]);
+    text.put(b"steady");
+    then_bits(answer[1], text);
 }
 
 // `falling BITS BITS`: those of its level and of its peak.
 fn falling<const N: usize>(answer: [u64; 8], text: &mut Text<N>) {
-    let _ = write!(text, "falling {:016x} {:016x}", answer[1], answer[2]);
+    text.put(b"falling");
+    then_bits(answer[1], text);
+    then_bits(answer[2], text);
 }
 
 // What the call of a number is answered, of its answer's words; the first word is the kind. `open`
@@ -112,12 +130,12 @@ fn falling<const N: usize>(answer: [u64; 8], text: &mut Text<N>) {
 pub fn tell<const N: usize>(number: u64, answer: [u64; 8], text: &mut Text<N>) {
     let kind = answer[0];
     match kind {
-        0 => told("refused", &answer[1..2], text),
+        0 => told(b"refused", &answer[1..2], text),
         1 => done(number, text),
-        2 => told("closed", &answer[1..3], text),
-        3 => told("read", &answer[1..6], text),
+        2 => told(b"closed", &answer[1..3], text),
+        3 => told(b"read", &answer[1..6], text),
         4 => counted(number, answer, text),
-        5 => told("wait", &answer[1..2], text),
+        5 => told(b"wait", &answer[1..2], text),
         10 => ended(answer, text),
         12 => text.put(b"quiet"),
         13 => steady(answer, text),
@@ -131,7 +149,7 @@ pub fn tell<const N: usize>(number: u64, answer: [u64; 8], text: &mut Text<N>) {
 pub fn tell_offer<const N: usize>(answer: [u64; 8], text: &mut Text<N>) {
     let kind = answer[0];
     match kind {
-        0 => told("refused", &answer[1..2], text),
+        0 => told(b"refused", &answer[1..2], text),
         10 => ended(answer, text),
         11 => took(answer, text),
         _ => completed(kind, answer, text),
@@ -140,5 +158,6 @@ pub fn tell_offer<const N: usize>(answer: [u64; 8], text: &mut Text<N>) {
 
 // `held K`: how many bytes a stream holds.
 pub fn tell_held<const N: usize>(n: u64, text: &mut Text<N>) {
-    let _ = write!(text, "held {n}");
+    text.put(b"held");
+    then_number(n, text);
 }

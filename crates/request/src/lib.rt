@@ -7,7 +7,7 @@
 // frames, are in the crate `command`, those on CRCs in `sums`, those on the startup in `starting`.
 #![tactic(auto)]
 
-ghost use Rattle.std.specs.Prelude.{true, ◌≡◌, length, get_or, eqb};
+ghost use Rattle.std.specs.Prelude.{true, ◌≡◌, length, get_or, eqb, IfSome};
 ghost use Rattle.command.specs.Args.{words_of};
 ghost use Rattle.request.specs.Request.{ask_device, request_of, is_silent, Says};
 
@@ -51,7 +51,8 @@ fn ask_device<const N: usize>(
     store: &mut [u8],
     text: &mut Text<N>,
 ) -> Option<DeviceCall>
-    ensures { Says (ask_device kept (length bytes.old) (length store.old) (words_of words.now)) result bytes.new store.old store.new }
+    ensures asks { Says (ask_device kept (length bytes.old) (length store.old) (words_of words.now)) result bytes.new store.old store.new }
+    ensures call { IfSome result (λ c. text.new ≡ text.old) }
 {
     let name = words.word(0);
     if name == b"bytes".as_slice() {
@@ -69,8 +70,9 @@ fn ask_device<const N: usize>(
     call
 }
 
-// The call that a line asks for, where `kept` bytes are lent by one that does not say. Any other line is
-// answered: a comment, and a line without words, by nothing. The text alone is not said.
+// The call that a line asks for, where `kept` bytes are lent by one that does not say; it leaves the text as it
+// was. Any other line is answered: a comment, and a line without words, by nothing. What an answer says is not
+// said here.
 #[tactic(auto, unfolding(crate::specs::Request::request_of, crate::specs::Request::is_silent))]
 pub fn ask<const N: usize>(
     line: &[u8],
@@ -81,6 +83,7 @@ pub fn ask<const N: usize>(
     text: &mut Text<N>,
 ) -> Option<DeviceCall>
     ensures silent { is_silent line.now ≡ true → text.new ≡ text.old }
+    ensures call { IfSome result (λ c. text.new ≡ text.old) }
     ensures asks { Says (request_of kept (length bytes.old) (length store.old) line.now) result bytes.new store.old store.new }
 {
     if is_comment(line) {

@@ -4,12 +4,10 @@
 // `word` finds the words of a line, `number` reads decimal numbers, `hex` reads bytes as hex, and
 // `text` is what a line is put together in: words, numbers and hex. Each public function answers
 // whatever comes: `None` where a word is not what is looked for, and what does not fit into a text
-// is not written at all. `stream` reads and writes for a program that says so where that fails.
-// Read `text::Text` first, and specs/ for what each answer is.
+// is not written at all. Read `text::Text` first, and specs/ for what each answer is.
 #![tactic(auto)]
 
 pub mod hex;
 pub mod number;
-pub mod stream;
 pub mod text;
 pub mod word;

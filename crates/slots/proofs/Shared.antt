@@ -37,6 +37,17 @@ use Rattle.std.specs.Prelude.{Err, Ok, Result, ⊤}
 use Rattle.wire.specs.declared.refusal.LocalRefusal.{LocalRefusal}
 use Rattle.wire.specs.declared.refusal.LocalRefusal.TheVariants.{BadPlace, BuffersFull, KeyAgain, OutOfRange, SharedByte, WindowLive}
 
+-- one more is asked
+pub either_turn : (s here rest : Bool) → either s (either here rest) ≡ either (either here s) rest
+either_turn true true rest = refl
+either_turn true false rest = refl
+either_turn false true rest = refl
+either_turn false false rest = refl
+
+pub either_false : (b : Bool) → either b false ≡ b
+either_false true = refl
+either_false false = refl
+
 abbrev pub streams_of : List ℕ → ℕ → List Stream
 streams_of w d = (domain_at (rnic_at w) d).streams
 

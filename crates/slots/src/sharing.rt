@@ -14,16 +14,19 @@ use block::window::load_window;
 use overlap::{buffers_share, has_write, window_shares};
 
 // Whether one of a domain's live windows that a peer may write shares a byte with the len bytes from place.
+// Kept: all are asked, also behind one that does. A loop that ends early is not unrolled, and a post was a
+// third slower by it.
 fn windows_share(words: &[u64; 945], domain: usize, place: u64, len: u64) -> bool
     requires { domain < 4 }
     ensures { result ≡ windows_share (domain_at (rnic_at words.now) domain).windows place len }
 {
+    let mut shared = false;
     for i in 0..16 {
         if window_shares(load_window(words, domain, i), place, len) {
-            return true;
+            shared = true;
         }
     }
-    false
+    shared
 }
 
 // Whether a buffer that waits on the stream of a domain's slot does.
@@ -43,13 +46,14 @@ fn streams_share(words: &[u64; 945], domain: usize, place: u64, len: u64) -> boo
     requires { domain < 4 }
     ensures { result ≡ streams_share (domain_at (rnic_at words.now) domain).streams place len }
 {
+    let mut shared = false;
     for i in 0..4 {
         let at = StreamPlace { domain, slot: i };
         if slot_shares(words, at, place, len) {
-            return true;
+            shared = true;
         }
     }
-    false
+    shared
 }
 
 // Whether some of the len bytes from place are a write window's or a waiting buffer's of a domain.

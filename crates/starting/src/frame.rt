@@ -19,14 +19,13 @@ ghost use Rattle.starting.specs.Starting.{
 };
 
 use crate::said::{terms_said, then_terms};
-use command::answer::{bad, refused, startup_read, then_hex, wait};
+use command::answer::{bad, refused, startup_read, then_hex, then_number, wait};
 use command::args::{Words, room};
 use command::frames::{part, tell_written};
 use script::hex::decode;
 use script::text::Text;
 use startup2::frame::{read_frame, write_frame};
 use startup2::{Form, FrameRead, Terms};
-use std::fmt::Write;
 use wire::refusal::LocalRefusal;
 
 // A command on startup frames, without the bytes that it is on.
@@ -188,7 +187,10 @@ pub fn answer_start(command: StartCommand, bytes: &[u8], frame: &mut [u8]) -> St
 
 // `startup2 TOTAL C R`, how the answer for a frame of revision 2 starts.
 fn second_head<const N: usize>(total: usize, crc: bool, declined: bool, text: &mut Text<N>) {
-    let _ = write!(text, "startup2 {total} {} {}", crc as u8, declined as u8);
+    text.put(b"startup2");
+    then_number(total as u64, text);
+    then_number(crc as u64, text);
+    then_number(declined as u64, text);
 }
 
 // `startup2 TOTAL C R HEX`: a frame with S clear.

@@ -4,11 +4,11 @@ ghost use Rattle.script.specs.Number.{number_of};
 ghost use Rattle.command.specs.Args.{words_of};
 ghost use Rattle.starting.specs.Starting.{terms_for, terms_said};
 
+use command::answer::then_number;
 use command::args::Words;
 use script::number::read_number;
 use script::text::Text;
 use startup2::Terms;
-use std::fmt::Write;
 
 // The terms of the words IRD, ORD and KINDS, where A is known.
 pub(crate) fn numbers_said(peer: bool, first: &[u8], second: &[u8], third: &[u8]) -> Option<Terms>
@@ -36,9 +36,8 @@ pub(crate) fn terms_said(words: &Words) -> Option<Terms>
 
 // Appends a space and terms.
 pub(crate) fn then_terms<const N: usize>(terms: Terms, text: &mut Text<N>) {
-    let _ = write!(
-        text,
-        " {} {} {} {}",
-        terms.peer as u8, terms.ird, terms.ord, terms.kinds
-    );
+    then_number(terms.peer as u64, text);
+    then_number(terms.ird, text);
+    then_number(terms.ord, text);
+    then_number(terms.kinds, text);
 }

@@ -9,14 +9,13 @@ ghost use Rattle.std.specs.Prelude.{◌≡◌, length};
 ghost use Rattle.command.specs.Args.{words_of};
 ghost use Rattle.sums.specs.Sums.{is_sum, crc_on, crc_word, whole_sum, carried_sum, joined_sum, crc_answer, join_answer, sum_answer};
 
-use command::answer::bad;
+use command::answer::{bad, then_hex};
 use command::args::Words;
 use crc32c::shift::join;
 use crc32c::{crc32c, update};
 use script::hex::decode;
 use script::number::read_number;
 use script::text::Text;
-use std::fmt::Write;
 use wire::number::get_be32;
 
 // Whether a line of that first word is one of these commands.
@@ -120,7 +119,8 @@ pub fn answer_sum(words: &Words, bytes: &mut [u8]) -> Option<u32>
 
 // `crc CRC`.
 fn tell_crc<const N: usize>(crc: u32, text: &mut Text<N>) {
-    let _ = write!(text, "crc {crc:08x}");
+    text.put(b"crc");
+    then_hex(&u32::to_be_bytes(crc), text);
 }
 
 // Puts an answer into text.

@@ -7,5 +7,5 @@ use Rattle.crc32c.proofs.short.over_byte.Goals as goal
 pub returns : goal.returns
 returns c =
     let a = c.args in
-    ap₂ (λ (p q : ℕ). bit_xor (bit_xor (bit_xor a.c a.b / 256) p) q) c.half.ensures c.half-2.ensures
+    ap₂ (λ (p q : ℕ). bit_xor (bit_xor (bit_xor a.c a.b / 256) p) q) (c.half.ensures (search rules)) (c.half-2.ensures (search rules))
     ∙ sym (byte_halves a.c a.b (search rules) (search rules))

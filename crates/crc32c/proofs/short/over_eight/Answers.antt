@@ -26,26 +26,26 @@ returns c =
     (ap₂ bit_xor
     (ap₂ bit_xor
     (ap₂ bit_xor
-    (ap₂ bit_xor c.half.ensures c.half-2.ensures)
-    c.half-3.ensures)
-    c.half-4.ensures)
-    c.half-5.ensures)
-    c.half-6.ensures)
-    c.half-7.ensures)
-    c.half-8.ensures) ∙ sym (by_halves 0 c.from_le_bytes-y.result (search rules)))
+    (ap₂ bit_xor (c.half.ensures (search rules)) (c.half-2.ensures (search rules)))
+    (c.half-3.ensures (search rules)))
+    (c.half-4.ensures (search rules)))
+    (c.half-5.ensures (search rules)))
+    (c.half-6.ensures (search rules)))
+    (c.half-7.ensures (search rules)))
+    (c.half-8.ensures (search rules))) ∙ sym (by_halves 0 c.from_le_bytes-y.result (search rules)))
     ((ap₂ bit_xor
     (ap₂ bit_xor
     (ap₂ bit_xor
     (ap₂ bit_xor
     (ap₂ bit_xor
     (ap₂ bit_xor
-    (ap₂ bit_xor c.half-9.ensures c.half-10.ensures)
-    c.half-11.ensures)
-    c.half-12.ensures)
-    c.half-13.ensures)
-    c.half-14.ensures)
-    c.half-15.ensures)
-    c.half-16.ensures) ∙ sym (by_halves 32 x l))
+    (ap₂ bit_xor (c.half-9.ensures (search rules)) (c.half-10.ensures (search rules)))
+    (c.half-11.ensures (search rules)))
+    (c.half-12.ensures (search rules)))
+    (c.half-13.ensures (search rules)))
+    (c.half-14.ensures (search rules)))
+    (c.half-15.ensures (search rules)))
+    (c.half-16.ensures (search rules))) ∙ sym (by_halves 32 x l))
     ∙ xor_comm (after 32 c.from_le_bytes-y.result) (after 64 x)
     ∙ ap₂ (λ (p q : ℕ). bit_xor (after 64 (bit_xor a.c p)) (after 32 q)) first second
     ∙ sym (run_eight a.c s (search rules) (search rules) (search rules) (search rules))

@@ -1,4 +1,5 @@
-// What a program reads and writes, where it says so if that fails: `failed` is what it then says.
+// What the program reads and writes, where it says so if that fails: `failed` is what it then says. It stands in both
+// programs, since the libraries do no I/O.
 ghost use Rattle.std.specs.Prelude.{◌≡◌, length};
 ghost use Rattle.std.specs.Io.{ReadsAtMost};
 
